@@ -1,0 +1,20 @@
+//! The trees of scripts, and how the first form of a script is read.
+#![tactic(auto)]
+
+mod characters;
+mod form;
+mod names;
+mod nodes;
+mod reader;
+mod spelled;
+#[cfg(test)]
+mod tests;
+mod tree;
+
+pub use names::is_name;
+pub use reader::{ReadStop, one_script_per_text, read_script};
+pub use spelled::Checked;
+pub use tree::{
+    BinaryOp, Case, Expr, ExprNode, ForFirst, ForInHead, FunctionTree, Item, LogicalOp, Script,
+    Stmt, StmtNode, UnaryOp, UpdateOp,
+};
