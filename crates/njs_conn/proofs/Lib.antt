@@ -1,0 +1,9 @@
+pub mod Parts
+pub mod Targets
+pub mod Fronts
+pub mod RequestForm
+pub mod Reading
+pub mod Writing
+pub mod Serving
+pub mod Building
+pub mod FirstForm

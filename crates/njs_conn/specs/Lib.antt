@@ -1,0 +1,13 @@
+pub mod Conf
+pub mod Request
+pub mod Response
+pub mod RequestForm
+pub mod Reader
+pub mod Site
+pub mod SiteCode
+pub mod Dictionary
+pub mod Meaning
+pub mod FirstForm
+pub mod Running
+pub mod Answers
+pub mod Writer

@@ -1,0 +1,114 @@
+// Serves one connection.
+ghost use Rattle.std.specs.Prelude.{◌≡◌, ◌≤◌};
+ghost use Rattle.njs_edge.specs.Causes.{Counts};
+ghost use Rattle.std.specs.Prelude.{◌<◌, []};
+ghost use Rattle.std.specs.Io.KnownBytes.{Keeps};
+ghost use Rattle.njs_conn.specs.Answers.{Serves, response_of};
+ghost use Rattle.njs_conn.specs.Response.{response_bytes};
+ghost use Rattle.njs_conn.specs.Writer.{Sends};
+
+use crate::reader::{Next, Reader};
+use crate::reply::response;
+use crate::request::Request;
+use crate::running::reply;
+use crate::site::Loaded;
+use crate::writer::{Written, write_whole};
+use njs_edge::{Sink, Source};
+use njs_text::{Steps, Text};
+use std::alloc::Global;
+use std::sync::ledger::Ledger;
+
+/// How a connection ended.
+#[derive(Clone, Copy, Debug, PartialEq, Eq)]
+pub enum ConnEnd {
+    Finished,
+    Cut,
+    ReadFault,
+    WriteFault,
+    NoMemory,
+}
+
+/// Whether a response was written.
+#[derive(Clone, Copy, Debug, PartialEq, Eq)]
+pub enum Sent {
+    Whole,
+    Failed,
+    NoMemory,
+}
+
+/// How many requests of a connection are answered.
+const MAX_REQUESTS: u32 = 1000;
+
+// Writes one response.
+fn send<K: Sink>(alloc: Global, status: u16, body: &str, keep: bool, sink: &mut K) -> Sent
+    requires low { 100 ≤ status }
+    requires high { status < 1000 }
+    ensures sent { Sends (K.got sink.old) (K.got sink.new) (response_bytes status body.now keep) result }
+    ensures cause { Counts (K.faults sink.old) (K.faults sink.new) (result ≡ Sent.Failed) }
+{
+    let Ok(text) = response(alloc, status, body, keep) else {
+        return Sent::NoMemory;
+    };
+    match write_whole(sink, text.as_bytes()) {
+        Written::Whole => Sent::Whole,
+        Written::Failed => Sent::Failed,
+    }
+}
+
+// Answers one request.
+fn answer<K: Sink>(
+    alloc: Global,
+    loaded: &Loaded,
+    request: &Request,
+    keep: bool,
+    sink: &mut K,
+) -> Sent
+    ensures sent { Sends (K.got sink.old) (K.got sink.new) (response_of loaded.now request.now keep) result }
+    ensures cause { Counts (K.faults sink.old) (K.faults sink.new) (result ≡ Sent.Failed) }
+{
+    let (status, body) = reply(loaded.site(), request);
+    send(alloc, status, body, keep, sink)
+}
+
+/// Answers request after request of one connection.
+pub fn serve_connection<S: Source, K: Sink, N: Sink, L: Ledger>(
+    alloc: Global,
+    loaded: &Loaded,
+    peer: &Text,
+    source: &mut S,
+    sink: &mut K,
+    notes: &mut N,
+    steps: &mut Steps<L>,
+) -> ConnEnd
+    ensures served { Serves loaded.now peer.now (S.left source.old) (S.left source.new) (K.got sink.old) (K.got sink.new) result }
+    ensures source { Counts (S.faults source.old) (S.faults source.new) (result ≡ ConnEnd.ReadFault) }
+    ensures sink { Counts (K.faults sink.old) (K.faults sink.new) (result ≡ ConnEnd.WriteFault) }
+    ensures notes { Keeps (N.got notes.old) (N.got notes.new) }
+    ensures notes_faults { N.faults notes.old ≤ N.faults notes.new }
+    ensures steps { steps.new ≡ steps.old }
+{
+    let mut reader = Reader::new(alloc);
+    for number in 0..MAX_REQUESTS {
+        match reader.next(alloc, source) {
+            Next::Request(request) => {
+                match answer(alloc, loaded, &request, number + 1 < MAX_REQUESTS, sink) {
+                    Sent::Whole => {}
+                    Sent::Failed => return ConnEnd::WriteFault,
+                    Sent::NoMemory => return ConnEnd::NoMemory,
+                }
+            }
+            Next::Bad(status) => {
+                return match send(alloc, status, "", false, sink) {
+                    Sent::Whole => ConnEnd::Finished,
+                    Sent::Failed => ConnEnd::WriteFault,
+                    Sent::NoMemory => ConnEnd::NoMemory,
+                };
+            }
+            Next::End => return ConnEnd::Finished,
+            Next::Cut => return ConnEnd::Cut,
+            Next::ReadFault => return ConnEnd::ReadFault,
+            Next::NoMemory => return ConnEnd::NoMemory,
+        }
+    }
+    ConnEnd::Finished
+}

@@ -1,0 +1,26 @@
+//! One connection: requests in, responses out.
+#![tactic(auto)]
+
+mod builder;
+mod conf;
+mod connection;
+mod laws;
+mod reader;
+mod reply;
+mod request;
+mod running;
+mod script;
+mod site;
+mod values;
+mod writer;
+
+pub use builder::{SiteFault, build};
+pub use conf::{Conf, Import, Location};
+pub use connection::{ConnEnd, serve_connection};
+pub use laws::accepted_scripts_answer;
+pub use reader::{Next, Reader};
+pub use reply::response;
+pub use request::{Miss, Request, Sight, look, request_form, request_from};
+pub use script::{MAX_SCRIPT, ScriptStop, ScriptWhy, script_from};
+pub use site::{Loaded, Site, load};
+pub use writer::{Written, write_whole};

@@ -1,0 +1,3 @@
+function hello(r) { r.return(200, "Hello world!"); }
+
+export default {hello};
