@@ -1,0 +1,4 @@
+pub mod Copied
+pub mod Filed
+pub mod Indices
+pub mod Written
