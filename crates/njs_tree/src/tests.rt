@@ -73,14 +73,16 @@ fn shown_object(alloc: Global, object: &Expr) -> Result<String, NoMemory> {
 }
 
 fn shown(alloc: Global, script: &Script) -> Result<String, NoMemory> {
-    if let [Item::Stmt(stmt), Item::Export(line, object)] = script.items.as_slice() {
-        if let StmtNode::FunctionDecl(function) = &stmt.node {
-            let (function, object) = (
-                shown_function(alloc, function)?,
-                shown_object(alloc, object)?,
-            );
-            let (first, function, object) = (stmt.line, function.as_str(), object.as_str());
-            return Ok(format!(in alloc; "{first} {function}; {line} {object}")?);
+    if let [first, second] = script.items.as_slice() {
+        if let (Item::Stmt(stmt), Item::Export(line, object)) = (first, second) {
+            if let StmtNode::FunctionDecl(function) = &stmt.node {
+                let (function, object) = (
+                    shown_function(alloc, function)?,
+                    shown_object(alloc, object)?,
+                );
+                let (first, function, object) = (stmt.line, function.as_str(), object.as_str());
+                return Ok(format!(in alloc; "{first} {function}; {line} {object}")?);
+            }
         }
     }
     Ok(String::new(alloc))
