@@ -1,0 +1,10 @@
+pub mod Costs
+pub mod Names
+pub mod Numbers
+pub mod Placing
+pub mod Alls
+pub mod Evicting
+pub mod Earliest
+pub mod Validity
+pub mod Free
+pub mod Histories

@@ -1,0 +1,11 @@
+pub mod Operation
+pub mod Zone
+pub mod Places
+pub mod Plain
+pub mod Changes
+pub mod Eviction
+pub mod Calls
+pub mod History
+pub mod Later
+pub mod PlainDicts
+pub mod Laws
