@@ -24,6 +24,7 @@ pub struct Location {
     pub handler: Text,
 }
 
+/// What a site is built from: its scripts and its locations, in the order of the configuration.
 #[derive(Drop)]
 pub struct Conf {
     /// How many ticks one request may take.
@@ -35,6 +36,7 @@ pub struct Conf {
 fn fit(path: &Text, location: &Location) -> usize
     ensures { result ≡ fit path.now location.now }
 {
+    // Their clauses bound the lengths of both texts, which the sums below need.
     let whole = path.as_bytes();
     let front = location.path.as_bytes();
     if location.exact {

@@ -21,9 +21,13 @@ use std::sync::ledger::Ledger;
 /// How a connection ended.
 #[derive(Clone, Copy, Debug, PartialEq, Eq)]
 pub enum ConnEnd {
+    /// The input ended between requests, or a response said `Connection: close`.
     Finished,
+    /// The input ended inside a request.
     Cut,
+    /// A read failed, and every whole request before it was answered.
     ReadFault,
+    /// A write or a flush failed.
     WriteFault,
     NoMemory,
 }
@@ -70,7 +74,8 @@ fn answer<K: Sink>(
     send(alloc, status, body, keep, sink)
 }
 
-/// Answers request after request of one connection.
+/// Answers request after request of one connection (RFC 9112 §9.3), each whole before the next is run. The thousandth request, and
+/// one that isn't of the form, close it. `peer` is the address of the other side, which no script can ask for yet.
 pub fn serve_connection<S: Source, K: Sink, N: Sink, L: Ledger>(
     alloc: Global,
     loaded: &Loaded,

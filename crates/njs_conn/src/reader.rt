@@ -101,7 +101,8 @@ impl Reader {
         }
     }
 
-    /// The next request, or what stands there in its place.
+    /// The next request, or what stands there in its place. It asks the source for more only while the bytes that are held decide
+    /// nothing. After any answer but `Request` the reader isn't asked again.
     pub fn next<S: Source>(&mut self, alloc: Global, source: &mut S) -> Next
         ensures next { ReadsOn (S.left source.old) (S.left source.new) self.old self.new result }
         ensures cause { Counts (S.faults source.old) (S.faults source.new) (result ≡ Next.ReadFault) }

@@ -8,11 +8,15 @@ use std::alloc::Global;
 /// Why a script is refused.
 #[derive(Clone, Copy, Debug, PartialEq, Eq)]
 pub enum ScriptWhy {
+    /// The bytes aren't UTF-8: the length of the longest front that is.
     NotUtf8(usize),
+    /// There are more than `MAX_SCRIPT` bytes.
     TooLong,
+    /// The text isn't of the form: a line of it, counted from 1.
     Syntax(u32),
 }
 
+/// Why no script was read.
 #[derive(Clone, Copy, Debug, PartialEq, Eq)]
 pub enum ScriptStop {
     Refused(ScriptWhy),
@@ -22,7 +26,7 @@ pub enum ScriptStop {
 /// How many bytes a script may have.
 pub const MAX_SCRIPT: usize = 4096;
 
-/// The script that the bytes spell.
+/// The script that the bytes spell. Bytes that aren't UTF-8 are refused first, then those of which there are too many.
 pub fn script_from(alloc: Global, bytes: &[u8]) -> Result<Checked, ScriptStop>
     ensures { ScriptFrom bytes.now result }
 {

@@ -358,30 +358,30 @@ tokens_found parts text (
   ),
 ) =
     let line = parts.lines in
-    let r0 = word_read (codes "function") text (line 0) text a s0 in
-    let r6 = name_read parts.parameter text (line 6) statement f s6 in
-    let r10 = status_read text (line 10) number i s10 in
-    let r12 = string_read parts.answer text (line 12) string j s12 in
-    let r16 = word_read (codes "export") text (line 16) export l s16 in
-    let r18 = mark_read 123 text (line 18) object exported refl s18 in
-    let r19 = name_read parts.name text (line 19) exported m s19 in
+    let function_word = word_read (codes "function") text (line 0) text a s0 in
+    let statement_name = name_read parts.parameter text (line 6) statement f s6 in
+    let status_number = status_read text (line 10) number i s10 in
+    let answer_string = string_read parts.answer text (line 12) string j s12 in
+    let export_word = word_read (codes "export") text (line 16) export l s16 in
+    let object_mark = mark_read 123 text (line 18) object exported refl s18 in
+    let exported_name = name_read parts.name text (line 19) exported m s19 in
     let head : head_at text ≡ Some (parts.name, parts.parameter, statement) =
-    head_gives text a b c d e statement parts.name parts.parameter r0.gives (name_read parts.name text (line 1) a b s1).gives (mark_read 40 text (line 2) b c refl s2).gives
+    head_gives text a b c d e statement parts.name parts.parameter function_word.gives (name_read parts.name text (line 1) a b s1).gives (mark_read 40 text (line 2) b c refl s2).gives
     (name_read parts.parameter text (line 3) c d s3).gives (mark_read 41 text (line 4) d e refl s4).gives (mark_read 123 text (line 5) e statement refl s5).gives in
     let body : body_at statement ≡ Some (parts.parameter, parts.answer, number, string, middle) =
-    body_gives statement f g h i j k number string middle parts.parameter parts.answer r6.gives (mark_read 46 text (line 7) f g refl s7).gives (word_read (codes "return") text (line 8) g h s8).gives
-    (mark_read 40 text (line 9) h number refl s9).gives r10.gives (mark_read 44 text (line 11) i string refl s11).gives r12.gives (mark_read 41 text (line 13) j k refl s13).gives
+    body_gives statement f g h i j k number string middle parts.parameter parts.answer statement_name.gives (mark_read 46 text (line 7) f g refl s7).gives (word_read (codes "return") text (line 8) g h s8).gives
+    (mark_read 40 text (line 9) h number refl s9).gives status_number.gives (mark_read 44 text (line 11) i string refl s11).gives answer_string.gives (mark_read 41 text (line 13) j k refl s13).gives
     (mark_read 59 text (line 14) k middle refl s14).gives in
     let tail : tail_at middle ≡ Some (parts.name, export, object, exported, rest) =
-    tail_gives middle l m n export object exported rest parts.name (mark_read 125 text (line 15) middle export refl s15).gives r16.gives (word_read (codes "default") text (line 17) l object s17).gives
-    r18.gives r19.gives (mark_read 125 text (line 20) m n refl s20).gives (mark_read 59 text (line 21) n rest refl s21).gives in
+    tail_gives middle l m n export object exported rest parts.name (mark_read 125 text (line 15) middle export refl s15).gives export_word.gives (word_read (codes "default") text (line 17) l object s17).gives
+    object_mark.gives exported_name.gives (mark_read 125 text (line 20) m n refl s20).gives (mark_read 59 text (line 21) n rest refl s21).gives in
     let q = places parts.name parts.parameter parts.answer statement number string export object exported in
     record {
       q = q;
       found = places_give text parts.name parts.parameter parts.answer statement number string middle export object exported rest head body tail (white_over rest over);
       name = refl;
       parameter = refl;
-      tree = same_tree (parts_of (form_at text q)) parts refl refl refl (sym r0.line) (sym r6.line) (sym r10.line) (sym r12.line) (sym r16.line) (sym r18.line) (sym r19.line);
+      tree = same_tree (parts_of (form_at text q)) parts refl refl refl (sym function_word.line) (sym statement_name.line) (sym status_number.line) (sym answer_string.line) (sym export_word.line) (sym object_mark.line) (sym exported_name.line);
     }
 
 form_gives : (text : Text) (p : Places) → is_bindable p.name ≡ true → is_bindable p.parameter ≡ true → form_tree (form_at text p) ≡ Some (tree_of (parts_of (form_at text p)))

@@ -8,7 +8,7 @@ ghost use Rattle.njs_tree.specs.Reader.{Answers, line_from, lines_at, form_at, f
 
 use crate::Script;
 use crate::characters::line_ends;
-use crate::form::{Break, Found, after_white, places};
+use crate::form::{Found, after_white, places};
 use crate::names::is_bindable;
 use crate::nodes::{self, Form, Lines};
 use njs_text::{NoMemory, Text};
