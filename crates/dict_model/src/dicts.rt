@@ -95,15 +95,15 @@ fn record(
 }
 
 impl OwnZone {
-    fn new(alloc: Global, spec: ZoneSpec) -> OwnZone
+    fn new(alloc: Global, spec: ZoneSpec) -> Result<OwnZone, NoMemory>
         requires { IsSpec spec }
-        ensures spec { result.spec ≡ spec }
-        ensures own { result.own ≡ [] }
+        ensures spec { IfOk result (λ zone. zone.spec ≡ spec) }
+        ensures own { IfOk result (λ zone. zone.own ≡ []) }
     {
-        OwnZone {
-            zone: PlainZone::new(alloc, spec),
+        Ok(OwnZone {
+            zone: PlainZone::new(alloc, spec)?,
             own: Vec::new(alloc),
-        }
+        })
     }
 
     fn call(&mut self, alloc: Global, op: DictOp, reading: u64) -> Result<DictReply, NoMemory>
@@ -158,7 +158,7 @@ impl PlainDicts {
     {
         let mut zones = Vec::new(alloc);
         for spec in specs {
-            zones.push(OwnZone::new(alloc, spec.copy(alloc)?))?;
+            zones.push(OwnZone::new(alloc, spec.copy(alloc)?)?)?;
         }
         Ok(PlainDicts { zones })
     }

@@ -100,7 +100,7 @@ fn spec(alloc: Global, limit: u32, timeout: Option<u32>, evict: bool) -> Result<
 #[test]
 fn entries_expire(rt: HostRuntime) -> Result<(), Fail> {
     let alloc = rt.alloc();
-    let mut zone = PlainZone::new(alloc, spec(alloc, 1024, Some(1000), false)?);
+    let mut zone = PlainZone::new(alloc, spec(alloc, 1024, Some(1000), false)?)?;
     let calls = [
         ("set", "k", "v", 5000, "Yes"),
         ("get", "k", "", 5999, "Value(Str(\"v\"))"),
@@ -120,7 +120,7 @@ fn entries_expire(rt: HostRuntime) -> Result<(), Fail> {
 #[test]
 fn each_operation_on_a_key(rt: HostRuntime) -> Result<(), Fail> {
     let alloc = rt.alloc();
-    let mut zone = PlainZone::new(alloc, spec(alloc, 1024, Some(1000), false)?);
+    let mut zone = PlainZone::new(alloc, spec(alloc, 1024, Some(1000), false)?)?;
     let calls = [
         ("get", "a", "", 1, "Nothing"),
         ("has", "a", "", 1, "No"),
@@ -169,7 +169,7 @@ fn the_first_to_expire_goes(rt: HostRuntime) -> Result<(), Fail> {
             "Names(List { items: [\"a\", \"b\", \"c\", \"d\"] })",
         ),
     ] {
-        let mut zone = PlainZone::new(alloc, spec(alloc, 1024, Some(1000), evict)?);
+        let mut zone = PlainZone::new(alloc, spec(alloc, 1024, Some(1000), evict)?)?;
         let calls = [
             ("set", "a", value, 10, "Yes"),
             ("set", "b", value, 20, "Yes"),
@@ -193,7 +193,7 @@ fn numbers_have_ends(rt: HostRuntime) -> Result<(), Fail> {
     let alloc = rt.alloc();
     let mut numbers = spec(alloc, 73, None, false)?;
     numbers.numeric = true;
-    let mut zone = PlainZone::new(alloc, numbers);
+    let mut zone = PlainZone::new(alloc, numbers)?;
     let calls = [
         ("n", 1, 9_007_199_254_740_990, "Number(9007199254740991)"),
         ("n", 1, 0, "Outside"),

@@ -73,17 +73,19 @@ fn prepare(
 }
 
 impl PlainZone {
-    /// An empty zone, at moment 0.
-    pub fn new(alloc: Global, spec: ZoneSpec) -> PlainZone
+    /// An empty zone, at moment 0. It is made as every kind of zone is, so it answers a `Result`, but a list takes no
+    /// memory before its first entry.
+    pub fn new(alloc: Global, spec: ZoneSpec) -> Result<PlainZone, NoMemory>
         requires { IsSpec spec }
-        ensures spec { result.spec ≡ spec }
-        ensures state { result.state ≡ empty }
+        ensures made { IsOk result }
+        ensures spec { IfOk result (λ zone. zone.spec ≡ spec) }
+        ensures state { IfOk result (λ zone. zone.state ≡ empty) }
     {
-        PlainZone {
+        Ok(PlainZone {
             spec,
             entries: Vec::new(alloc),
             moment: 0,
-        }
+        })
     }
 
     /// What was opened.

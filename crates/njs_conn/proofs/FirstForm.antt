@@ -12,7 +12,7 @@ use Rattle.njs_tree.specs.declared.tree.StmtNode.{StmtNode, StmtNode-F, out-Stmt
 use Rattle.njs_tree.specs.declared.tree.StmtNode.TheVariants as step
 use Rattle.njs_tree.specs.declared.tree.FunctionTree.{FunctionTree, out-roll-FunctionTree}
 use Rattle.njs_tree.specs.Script.{Parts, IsForm, expr_on, stmt_on, tree_of, function_of}
-use Rattle.njs_conn.specs.Meaning.{◌>>=◌, expr_node, stmt_node, handler_of, answer_of, function_at}
+use Rattle.njs_conn.specs.Meaning.{◌>>=◌, plain_text, expr_node, stmt_node, handler_of, answer_of, function_at}
 use Rattle.njs_conn.specs.FirstForm.{Answers, handles}
 
 same_name : (xs : List ℕ) → bytes_eq xs xs ≡ true
@@ -67,11 +67,11 @@ handler : (p : Parts) (name : List ℕ) → handler_of (tree_of p).items name �
 handler p name = simp object_node (choose_handler (bytes_eq p.name name) _ (function_of p) (function_at (tree_of p).items) (named p))
 
 -- what it answers
-answered : (p : Parts) → answer_of (tree_of p).items (function_of p) ≡ Some (record { status = 200; body = p.answer })
+answered : (p : Parts) → answer_of (tree_of p).items (function_of p) ≡ Some (plain_text 200 p.answer)
 unfolding encode_utf8
 answered p = simp (out-roll-FunctionTree, effect_node, call_node, member_node, name_node, same_name) (simp (number_node, string_node))
 
-own : (p : Parts) → handles (tree_of p).items p.name ≡ Some (record { status = 200; body = p.answer })
+own : (p : Parts) → handles (tree_of p).items p.name ≡ Some (plain_text 200 p.answer)
 own p = simp (handler, same_name) (answered p)
 
 other : (p : Parts) (name : List ℕ) → (p.name ≢ name) → handler_of (tree_of p).items name ≡ None

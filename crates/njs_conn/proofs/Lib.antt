@@ -7,3 +7,4 @@ pub mod Writing
 pub mod Serving
 pub mod Building
 pub mod FirstForm
+pub mod Replies

@@ -2,6 +2,7 @@
 use Rattle.std.proofs.Common.{◌≡◌, ◌≤◌, ◌<◌, ◌+◌, ◌++◌, ℕ, List, [], ◌∷◌, length, drop, Result, Ok, Err, refl, sym, ap, ◌∙◌, subst, Bool, true, false, cond, ◌&&◌, arith, append_assoc, append-nil, length-append, ◌==◌, leb}
 use Rattle.std.specs.List.{list_all}
 use Rattle.std.proofs.lemmas.Bool.Decides.{nat_tests}
+use Rattle.http_out.specs.Message.{crlf}
 use Rattle.njs_conn.specs.declared.request.Miss.{Miss}
 use Rattle.njs_conn.specs.declared.request.Miss.TheVariants.{Wants, Differs}
 use Rattle.njs_conn.specs.declared.request.Request.{Request}
@@ -13,7 +14,7 @@ use Rattle.njs_conn.proofs.Parts.{IsPart, Stays, Later, literal_part, visible_pa
 
 -- the form, as the parts read it
 spelled_so : (target host rest : List ℕ) → request_bytes (47 ∷ target) host ++ rest ≡ method ++ (target ++ (middle ++ (host ++ (end ++ rest))))
-unfolding request_bytes
+unfolding request_bytes crlf
 spelled_so target host rest = simp append_assoc refl
 
 -- each part reads what spells it

@@ -11,7 +11,8 @@ use Rattle.njs_conn.specs.declared.connection.Sent.TheVariants as sents
 use Rattle.njs_conn.specs.declared.reader.Next.TheVariants as nexts
 use Rattle.njs_conn.specs.Request as requests
 use Rattle.njs_conn.specs.Request.{Front, front, IsPartial}
-use Rattle.njs_conn.specs.Response.{response_bytes}
+use Rattle.http_out.specs.Response.{response_bytes}
+use Rattle.njs_conn.specs.Meaning.{plain_text}
 use Rattle.njs_conn.specs.Reader.{ReadsOn}
 use Rattle.njs_conn.specs.Writer.{IsFront, Sends, SentIs}
 use Rattle.njs_conn.specs.Answers.{Answer, Refused, Closed, after, ending, answered, answers_within, response_of, EndsAs, Serves}
@@ -131,11 +132,11 @@ refused sents.Whole grew bytes status left h = (h, tt)
 refused sents.Failed grew bytes status left h = h
 refused sents.NoMemory grew bytes status left h = h
 
-pub at_bad : (site : Site) (peer : List ℕ) (n m : ℕ) (held rest : List ℕ) (status : ℕ) (result : Sent) (end : ConnEnd) (l0 l1 l2 g0 g1 g2 : Option (List ℕ)) → n ≡ suc m → SoFar site peer n held l0 l1 g0 g1 → ReadsOn l1 l2 held rest (nexts.Bad status) → Sends g1 g2 (response_bytes status [] false) result → end_of result ≡ end → Serves site peer l0 l2 g0 g2 end
+pub at_bad : (site : Site) (peer : List ℕ) (n m : ℕ) (held rest : List ℕ) (status : ℕ) (result : Sent) (end : ConnEnd) (l0 l1 l2 g0 g1 g2 : Option (List ℕ)) → n ≡ suc m → SoFar site peer n held l0 l1 g0 g1 → ReadsOn l1 l2 held rest (nexts.Bad status) → Sends g1 g2 (response_bytes (plain_text status []) false false) result → end_of result ≡ end → Serves site peer l0 l2 g0 g2 end
 at_bad site peer n m held rest status result end l0 l1 l2 g0 g1 g2 is s r w so = subst (λ e. Serves site peer l0 l2 g0 g2 e) so (
     closes site peer n held r.taken w.grew l0 l1 l2 g0 g1 g2 (end_of result) _ s r.read w.wrote
     (ap (λ k. answers_within k site peer (held ++ r.taken) []) is ∙ answers_at m site peer (held ++ r.taken) (requests.Bad status) r.next.1)
-    (refused result w.grew (response_bytes status [] false) status l2 w.part))
+    (refused result w.grew (response_bytes (plain_text status []) false false) status l2 w.part))
 
 -- a response that was not written whole
 front_of : (a b c : List ℕ) → IsFront a b → IsFront a (b ++ c)

@@ -6,10 +6,10 @@ use Rattle.njs_conn.specs.declared.connection.ConnEnd.TheVariants as ends
 use Rattle.njs_conn.specs.declared.request.Request.{Request}
 use Rattle.njs_conn.specs.Dictionary.{Operation, Call, Replies}
 use Rattle.njs_conn.specs.Site.{Site}
-use Rattle.njs_conn.specs.Meaning.{reply_of}
+use Rattle.http_out.specs.Response.{response_bytes}
+use Rattle.njs_conn.specs.Meaning.{plain_text, reply_of}
 use Rattle.njs_conn.specs.Request as requests
 use Rattle.njs_conn.specs.Request.{Front, front}
-use Rattle.njs_conn.specs.Response.{response_bytes}
 use Rattle.njs_conn.specs.Writer.{IsFront}
 
 -- how the requests of a connection end; a script may also wait for a dictionary's reply
@@ -34,7 +34,7 @@ pub data Step : Type 0 where
   Asks : ℕ → Operation → List Call → Step
 
 abbrev pub response_of : Site → Request → Bool → List ℕ
-response_of site request keep = response_bytes (reply_of site request).status (encode_utf8_all (reply_of site request).body) keep
+response_of site request keep = response_bytes (reply_of site request) keep false
 
 -- one request, whose scripts start afresh; they neither log nor ask a dictionary yet
 abbrev pub next : Site → List ℕ → Request → Bool → Replies → Step
@@ -55,7 +55,7 @@ continued (Asks zone operation calls) later = record { bytes = []; log = []; cal
 -- what stands at a place, where later gives what is answered to the bytes behind
 abbrev pub answered : (List ℕ → Replies → Answer) → Bool → Site → List ℕ → Replies → Front → Answer
 answered later keep site peer replies (requests.Whole request rest) = continued (next site peer request keep replies) (λ left. later rest left)
-answered later keep site peer replies (requests.Bad status) = ending (response_bytes status [] false) (Refused status)
+answered later keep site peer replies (requests.Bad status) = ending (response_bytes (plain_text status []) false false) (Refused status)
 answered later keep site peer replies requests.Ended = ending [] InputEnds
 answered later keep site peer replies requests.CutOff = ending [] CutOff
 

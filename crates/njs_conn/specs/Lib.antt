@@ -1,6 +1,5 @@
 pub mod Conf
 pub mod Request
-pub mod Response
 pub mod RequestForm
 pub mod Reader
 pub mod Site

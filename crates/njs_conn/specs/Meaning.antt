@@ -13,6 +13,7 @@ use Rattle.njs_tree.specs.declared.tree.StmtNode.{StmtNode, StmtNode-F, out-Stmt
 use Rattle.njs_tree.specs.declared.tree.ForFirst.{ForFirst}
 use Rattle.njs_tree.specs.declared.tree.ForInHead.{ForInHead}
 use Rattle.njs_tree.specs.declared.tree.Case.{Case}
+use Rattle.http_out.specs.declared.reply.Reply.{Reply}
 use Rattle.njs_conn.specs.declared.conf.Location.{Location}
 use Rattle.njs_conn.specs.declared.request.Request.{Request}
 use Rattle.njs_conn.specs.Conf.{chosen}
@@ -95,10 +96,9 @@ abbrev pub callee_of : List Item → List (List ℕ) → ExprCases → Option Va
 callee_of script parameters (ExprNode-F.Member object name) = value_of script parameters (expr_node object) >>= λ v. member v name
 callee_of script parameters _ = None
 
--- what a handler answers
-pub record Reply : Type 0 where
-  pub status : ℕ
-  pub body : List ℕ
+-- a text as a reply: it is sent as plain text, with no further field, until handlers can state fields
+abbrev pub plain_text : ℕ → List ℕ → Reply
+plain_text status body = record { status = status; kind = codes "text/plain"; fields = []; body = body }
 
 -- the njs reference, `r.return`: with the status 200 and a text as body
 abbrev pub is_ok_status : ℤ → Bool
@@ -106,7 +106,7 @@ is_ok_status (pos n) = n == 200
 is_ok_status _ = false
 
 abbrev pub returned : Value → Value → Option Reply
-returned (Number status) (String body) = if is_ok_status status then Some (record { status = 200; body = body }) else None
+returned (Number status) (String body) = if is_ok_status status then Some (plain_text 200 body) else None
 returned _ _ = None
 
 abbrev pub call_of : List Item → List (List ℕ) → Value → List Expr → Option Reply
@@ -160,10 +160,10 @@ answer_of script f = body_of script (out-FunctionTree f).params (out-FunctionTre
 
 -- a request without a location answers 404, one whose handler is missing or gives no answer 500
 abbrev pub without_location : Reply
-without_location = record { status = 404; body = [] }
+without_location = plain_text 404 []
 
 abbrev pub without_answer : Reply
-without_answer = record { status = 500; body = [] }
+without_answer = plain_text 500 []
 
 abbrev pub or_failure : Option Reply → Reply
 or_failure (Some reply) = reply

@@ -1,7 +1,7 @@
 -- The form of a request, and what stands at the front of some bytes by it (RFC 9112 §2.1, §3, §3.2).
 use Rattle.std.specs.Prelude.{ℕ, ◌≤◌, ◌≡◌, List, [], ◌++◌, length, codes, true}
 use Rattle.std.specs.List.{list_all}
-use Rattle.njs_conn.specs.Response.{crlf}
+use Rattle.http_out.specs.Message.{crlf}
 use Rattle.njs_conn.specs.Request.{is_visible, path_of, max_head, Front, Whole, Bad, Ended, CutOff}
 
 -- the request line and the line of the host, each ended by CR LF, and an empty line

@@ -1,18 +1,21 @@
 // Serves one connection.
 ghost use Rattle.std.specs.Prelude.{◌≡◌, ◌≤◌};
 ghost use Rattle.njs_edge.specs.Causes.{Counts};
-ghost use Rattle.std.specs.Prelude.{◌<◌, []};
+ghost use Rattle.std.specs.Prelude.{◌<◌, [], false};
 ghost use Rattle.std.specs.Io.KnownBytes.{Keeps};
 ghost use Rattle.njs_conn.specs.Answers.{Serves, response_of};
-ghost use Rattle.njs_conn.specs.Response.{response_bytes};
+ghost use Rattle.njs_conn.specs.Meaning.{plain_text};
+ghost use Rattle.http_out.specs.Reply.{IsReply};
+ghost use Rattle.http_out.specs.Response.{response_bytes};
 ghost use Rattle.njs_conn.specs.Writer.{Sends};
 
+use crate::plain::without_body;
 use crate::reader::{Next, Reader};
-use crate::reply::response;
 use crate::request::Request;
-use crate::running::reply;
+use crate::running::reply_to;
 use crate::site::Loaded;
 use crate::writer::{Written, write_whole};
+use http_out::{Reply, response};
 use njs_edge::{Sink, Source};
 use njs_text::{Steps, Text};
 use std::alloc::Global;
@@ -44,16 +47,15 @@ pub enum Sent {
 const MAX_REQUESTS: u32 = 1000;
 
 // Writes one response.
-fn send<K: Sink>(alloc: Global, status: u16, body: &str, keep: bool, sink: &mut K) -> Sent
-    requires low { 100 ≤ status }
-    requires high { status < 1000 }
-    ensures sent { Sends (K.got sink.old) (K.got sink.new) (response_bytes status body.now keep) result }
+fn send<K: Sink>(alloc: Global, reply: &Reply, keep: bool, sink: &mut K) -> Sent
+    requires valid { IsReply reply.now }
+    ensures sent { Sends (K.got sink.old) (K.got sink.new) (response_bytes reply.now keep false) result }
     ensures cause { Counts (K.faults sink.old) (K.faults sink.new) (result ≡ Sent.Failed) }
 {
-    let Ok(text) = response(alloc, status, body, keep) else {
+    let Ok(bytes) = response(alloc, reply, keep, false) else {
         return Sent::NoMemory;
     };
-    match write_whole(sink, text.as_bytes()) {
+    match write_whole(sink, bytes.as_slice()) {
         Written::Whole => Sent::Whole,
         Written::Failed => Sent::Failed,
     }
@@ -70,8 +72,20 @@ fn answer<K: Sink>(
     ensures sent { Sends (K.got sink.old) (K.got sink.new) (response_of loaded.now request.now keep) result }
     ensures cause { Counts (K.faults sink.old) (K.faults sink.new) (result ≡ Sent.Failed) }
 {
-    let (status, body) = reply(loaded.site(), request);
-    send(alloc, status, body, keep, sink)
+    let Ok(reply) = reply_to(alloc, loaded.site(), request) else {
+        return Sent::NoMemory;
+    };
+    send(alloc, &reply, keep, sink)
+}
+
+// Answers what is refused as a request.
+fn refuse<K: Sink>(alloc: Global, status: u16, sink: &mut K) -> Sent
+    requires low { 100 ≤ status }
+    requires high { status < 1000 }
+    ensures sent { Sends (K.got sink.old) (K.got sink.new) (response_bytes (plain_text status []) false false) result }
+    ensures cause { Counts (K.faults sink.old) (K.faults sink.new) (result ≡ Sent.Failed) }
+{
+    send(alloc, &without_body(alloc, status), false, sink)
 }
 
 /// Answers request after request of one connection (RFC 9112 §9.3), each whole before the next is run. The thousandth request, and
@@ -103,7 +117,7 @@ pub fn serve_connection<S: Source, K: Sink, N: Sink, L: Ledger>(
                 }
             }
             Next::Bad(status) => {
-                return match send(alloc, status, "", false, sink) {
+                return match refuse(alloc, status, sink) {
                     Sent::Whole => ConnEnd::Finished,
                     Sent::Failed => ConnEnd::WriteFault,
                     Sent::NoMemory => ConnEnd::NoMemory,

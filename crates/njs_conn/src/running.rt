@@ -1,15 +1,19 @@
 // Runs a handler on its tree, as far as its nodes have a meaning yet.
-ghost use Rattle.std.specs.Prelude.{◌≡◌, ◌≤◌, ◌<◌, encode_utf8_all};
+ghost use Rattle.std.specs.Prelude.{◌≡◌, IfOk};
 ghost use Rattle.std.specs.Option.{option_map};
 ghost use Rattle.njs_conn.specs.Meaning.{answer_of, body_of, call_of, callee_of, declared_by, effect_of, exported, expr_node, function_at, function_named, handled_by, handler_of, if_named, location_of, member, parameter, property, property_of, reply_of, request_member, returned, statement, stmt_node, value_of, value_of_name};
 ghost use Rattle.njs_conn.specs.Running.{seen_reply, seen_value};
+ghost use Rattle.http_out.specs.Reply.{IsReply};
 
 use crate::conf::Location;
+use crate::plain::{plain_text, without_body};
 use crate::request::Request;
 use crate::site::Site;
 use crate::values::{Answer, Value};
-use njs_text::Text;
+use http_out::Reply;
+use njs_text::{NoMemory, Text};
 use njs_tree::{Expr, ExprNode, FunctionTree, Item, Stmt, StmtNode};
+use std::alloc::Global;
 
 fn if_named<'a>(
     name: &Text,
@@ -263,18 +267,25 @@ fn handled_by<'a>(site: &'a Site, location: &Location) -> Option<Answer<'a>>
     }
 }
 
-/// The status of the response to a request, and the text of its body.
-pub(crate) fn reply<'a>(site: &'a Site, request: &Request) -> (u16, &'a str)
-    ensures status { result.0 ≡ (reply_of site.now request.now).status }
-    ensures body { result.1.now ≡ encode_utf8_all (reply_of site.now request.now).body }
-    ensures low { 100 ≤ result.0 }
-    ensures high { result.0 < 1000 }
+// What a handler answers, as a reply of its own.
+fn owned(alloc: Global, answer: Answer<'_>) -> Result<Reply, NoMemory>
+    ensures reply { IfOk result (λ reply. reply ≡ seen_reply answer.entry) }
+    ensures valid { IfOk result IsReply }
+{
+    let body = answer.body.copy(alloc)?;
+    Ok(plain_text(alloc, answer.status, body))
+}
+
+/// The reply to a request.
+pub(crate) fn reply_to(alloc: Global, site: &Site, request: &Request) -> Result<Reply, NoMemory>
+    ensures reply { IfOk result (λ reply. reply ≡ reply_of site.now request.now) }
+    ensures valid { IfOk result IsReply }
 {
     let Some(location) = location_of(site, &request.path) else {
-        return (404, "");
+        return Ok(without_body(alloc, 404));
     };
     match handled_by(site, location) {
-        Some(answer) => (answer.status, answer.body.as_str()),
-        None => (500, ""),
+        Some(answer) => owned(alloc, answer),
+        None => Ok(without_body(alloc, 500)),
     }
 }

@@ -2,7 +2,7 @@ use Rattle.std.proofs.Common.{◌≡◌, ◌<◌, ◌+◌, ◌-◌, ℕ, suc, lt
 use Rattle.std.proofs.lemmas.Bool.Decides.{nat_tests}
 use Rattle.njs_conn.proofs.Serving.{one_more, at_input_end, at_cut, at_read_fault, at_no_memory, at_bad, at_write_fault, at_send_no_memory, at_limit, end_of}
 use Rattle.njs_conn.proofs.connection.serve_connection.Goals as goal
-use Rattle.njs_conn.proofs.connection.serve_connection.Goals.{in-Whole-send, in-Failed-send, in-NoMemory-send}
+use Rattle.njs_conn.proofs.connection.serve_connection.Goals.{in-Whole-refuse, in-Failed-refuse, in-NoMemory-refuse}
 
 -- requests that are left
 left_over : (number : ℕ) → number < 1000 → 1000 - number ≡ suc (999 - number)
@@ -24,11 +24,11 @@ returns-in-NoMemory-answer-clause-served g c =
 
 pub returns-in-Bad-clause-served : goal.returns-in-Bad-clause-served
 returns-in-Bad-clause-served g c =
-    at_bad _ _ _ (999 - c.loop-number.number) _ _ c.in-Bad.status c.send.result _ _ _ _ _ _ _ (left_over _ c.loop-number-test.true) c.loop-number.invariant.so_far c.in-Bad.ensures.next c.send.ensures.sent
-    (elim c.match-send.branch [
-      | in-Whole-send w ↦ ap end_of w.in-Whole-send.is ∙ sym w.result-is
-      | in-Failed-send w ↦ ap end_of w.in-Failed-send.is ∙ sym w.result-is
-      | in-NoMemory-send w ↦ ap end_of w.in-NoMemory-send.is ∙ sym w.result-is
+    at_bad _ _ _ (999 - c.loop-number.number) _ _ c.in-Bad.status c.refuse.result _ _ _ _ _ _ _ (left_over _ c.loop-number-test.true) c.loop-number.invariant.so_far c.in-Bad.ensures.next c.refuse.ensures.sent
+    (elim c.match-refuse.branch [
+      | in-Whole-refuse w ↦ ap end_of w.in-Whole-refuse.is ∙ sym w.result-is
+      | in-Failed-refuse w ↦ ap end_of w.in-Failed-refuse.is ∙ sym w.result-is
+      | in-NoMemory-refuse w ↦ ap end_of w.in-NoMemory-refuse.is ∙ sym w.result-is
     ])
 
 pub returns-in-End-clause-served : goal.returns-in-End-clause-served
