@@ -1,3 +1,4 @@
 pub mod Ascii
 pub mod Steps
 pub mod Whole
+mod Examples

@@ -4,3 +4,10 @@ pub mod Tokens
 pub mod Script
 pub mod Reads
 pub mod Reader
+pub mod Lexemes
+pub mod Lexical
+pub mod TokenList
+pub mod Symbols
+pub mod Grammar
+pub mod Brackets
+pub mod Early

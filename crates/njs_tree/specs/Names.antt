@@ -19,6 +19,10 @@ is_reserved text = list_any (bytes_eq text) reserved
 abbrev pub is_name : List ℕ → Bool
 is_name text = is_word text && not (is_reserved text)
 
--- a name that a function or a parameter may have: not `eval` and not `arguments` (ECMA-262 5.1 §13.1)
+-- the names that strict mode lets nobody bind (ECMA-262 5.1 §13.1)
+abbrev pub is_protected : List ℕ → Bool
+is_protected text = bytes_eq text (codes "eval") || bytes_eq text (codes "arguments")
+
+-- a name that a function or a parameter may have
 unfoldable pub is_bindable : List ℕ → Bool
-is_bindable text = is_name text && not (bytes_eq text (codes "eval") || bytes_eq text (codes "arguments"))
+is_bindable text = is_name text && not (is_protected text)
