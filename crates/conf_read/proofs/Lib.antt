@@ -1,0 +1,9 @@
+pub mod Pieces
+pub mod Reading
+pub mod Bounds
+pub mod Listing
+pub mod Lexing
+pub mod Grouping
+pub mod Judging
+pub mod Whole
+pub mod Limits

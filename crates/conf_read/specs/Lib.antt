@@ -1,0 +1,12 @@
+pub mod Characters
+pub mod Tree
+pub mod Scan
+pub mod Table
+pub mod Values
+pub mod Rules
+pub mod Meaning
+pub mod Walk
+pub mod Choose
+pub mod Reads
+pub mod Law
+pub mod Limits
