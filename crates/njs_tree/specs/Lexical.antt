@@ -1,8 +1,8 @@
 -- The input elements of a text (ECMA-262 5.1 §7): white space and comments, words, numbers, strings and marks. A text is a list of
 -- scalar values.
-use Rattle.std.specs.Prelude.{ℕ, zero, suc, ◌+◌, ◌-◌, ◌^◌, List, [], ◌∷◌, ◌++◌, length, take, drop, Bool, true, false, ◌&&◌, ◌||◌, nat_le, nat_lt, ◌==◌, if◌then◌else◌, Option, Some, None, Result, Ok, Err, option_map}
+use Rattle.std.specs.Prelude.{ℕ, zero, suc, ◌+◌, ◌-◌, ◌*◌, ◌^◌, List, [], ◌∷◌, ◌++◌, length, take, drop, Bool, true, false, not, ◌&&◌, ◌||◌, nat_le, nat_lt, ◌==◌, if◌then◌else◌, Option, Some, None, Result, Ok, Err, option_map}
 use Rattle.std.specs.List.{list_all}
-use Rattle.std.specs.Char.{is_digit}
+use Rattle.std.specs.Char.{is_digit, digit_value}
 use Rattle.std.specs.Char.Utf16.{is_high_surrogate, is_low_surrogate, surrogate_pair_char}
 use Rattle.std.specs.Str.Parse.{digits_value}
 use Rattle.njs_tree.specs.declared.token.LexFault.{LexFault}
@@ -32,8 +32,7 @@ front_length test (c ∷ s) = if test c then front_length test s + 1 else 0
 
 -- the length up to the line end
 abbrev pub line_length : List ℕ → ℕ
-line_length [] = 0
-line_length (c ∷ s) = if is_line_end c then 0 else line_length s + 1
+line_length text = front_length (λ c. not (is_line_end c)) text
 
 -- the length up to and with the next `*/`
 abbrev pub block_length : List ℕ → Option ℕ
@@ -65,16 +64,16 @@ opens_comment (c ∷ s) = c == 42 && is_missing (block_length s)
 
 -- ---- numbers (§7.8.3, whole ones alone)
 
--- after a 0: `x` or `X` and one or more hexadecimal digits
-abbrev pub is_hex_part : List ℕ → Bool
-is_hex_part [] = false
-is_hex_part (x ∷ s) = (x == 120 || x == 88) && begins is_hex s && list_all is_hex s
+-- after a 0: `x` or `X` and a hexadecimal digit
+abbrev pub is_hex_start : List ℕ → Bool
+is_hex_start [] = false
+is_hex_start (x ∷ s) = (x == 120 || x == 88) && begins is_hex s
 
 -- a whole text that is a number: `0`, or a digit 1 to 9 and further ones, or `0x` and hexadecimal digits
 abbrev pub is_number : List ℕ → Bool
 is_number [] = false
 is_number (c ∷ []) = is_decimal c
-is_number (c ∷ d ∷ s) = if c == 48 then is_hex_part (d ∷ s) else list_all is_decimal (c ∷ d ∷ s)
+is_number (c ∷ d ∷ s) = if c == 48 then is_hex_start (d ∷ s) && list_all is_hex s else list_all is_decimal (c ∷ d ∷ s)
 
 -- and its value
 abbrev pub number_value : List ℕ → ℕ
@@ -83,8 +82,7 @@ number_value (c ∷ s) = if c == 48 then digits_value 16 (drop 1 s) else digits_
 
 -- after a 0, the length of the number with it
 abbrev pub zero_length : List ℕ → ℕ
-zero_length [] = 1
-zero_length (x ∷ s) = if (x == 120 || x == 88) && begins is_hex s then front_length is_hex s + 2 else 1
+zero_length s = if is_hex_start s then front_length is_hex (drop 1 s) + 2 else 1
 
 -- the length of the longest number that begins the text
 abbrev pub number_length : List ℕ → ℕ
@@ -107,9 +105,14 @@ is_bad_number text n = begins spoils_number (drop n text) || nat_lt max_number (
 abbrev pub escaped : ℕ → ℕ
 escaped c = if c == 98 then 8 else if c == 116 then 9 else if c == 110 then 10 else if c == 118 then 11 else if c == 102 then 12 else if c == 114 then 13 else c
 
--- the value of so many hexadecimal digits
+-- the value of so many hexadecimal digits, after those of a value
+abbrev pub hex_from : ℕ → ℕ → List ℕ → Option ℕ
+hex_from value zero text = Some value
+hex_from value (suc n) [] = None
+hex_from value (suc n) (c ∷ s) = if is_hex c then hex_from (value * 16 + digit_value c) n s else None
+
 abbrev pub hex_value : ℕ → List ℕ → Option ℕ
-hex_value n text = if nat_le n (length text) && list_all is_hex (take n text) then Some (digits_value 16 (take n text)) else None
+hex_value n text = hex_from 0 n text
 
 -- An escape is given by what it stands for, and its length without the backslash.
 abbrev pub hex_escape : Option ℕ → Option (List ℕ × ℕ)
@@ -167,7 +170,7 @@ string_from quote (c ∷ s) zero =
 
 abbrev pub string_of_length : ℕ → Result (List ℕ × ℕ) LexFault → Option Lexeme
 string_of_length n (Err f) = None
-string_of_length n (Ok found) = if found.1 == n then Some (Lexeme.string found.0) else None
+string_of_length n (Ok found) = if found.1 + 1 == n then Some (Lexeme.string found.0) else None
 
 abbrev pub word_lexeme : List ℕ → Option Lexeme
 word_lexeme slice = if is_word slice then Some (word slice) else None
@@ -184,7 +187,7 @@ lexeme_at n [] = None
 lexeme_at n (c ∷ s) =
     if is_letter c then word_lexeme (take n (c ∷ s))
     else if is_decimal c then number_lexeme (take n (c ∷ s))
-    else if is_quote c then string_of_length n (one_more [] (string_from c s 0))
+    else if is_quote c then string_of_length n (string_from c s 0)
     else mark_lexeme (take n (c ∷ s))
 
 abbrev pub string_fault : Result (List ℕ × ℕ) LexFault → Option LexFault

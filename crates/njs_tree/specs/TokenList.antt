@@ -1,6 +1,6 @@
 -- The tokens of a text: at each place the longest that fits, with white space and comments before, between and after them
 -- (ECMA-262 5.1 §7).
-use Rattle.std.specs.Prelude.{◌≡◌, ℕ, ◌-◌, ◌<◌, ◌≤◌, nat_lt, List, [], ◌∷◌, length, drop, Option, Some, None, Result, Ok, Err, map, slice_range}
+use Rattle.std.specs.Prelude.{◌≡◌, ℕ, ◌+◌, ◌-◌, ◌^◌, min, ◌<◌, ◌≤◌, nat_lt, List, [], ◌∷◌, length, drop, Option, Some, None, Result, Ok, Err, map, slice_range}
 use Rattle.std.specs.Str.{chars, encode_utf8_all}
 use Rattle.njs_tree.specs.declared.token.Token.{Token}
 use Rattle.njs_tree.specs.declared.token.Kind.{Kind}
@@ -39,6 +39,21 @@ place_of text rest = length (encode_utf8_all text) - length (encode_utf8_all res
 abbrev pub token_of : List ℕ → List ℕ → List ℕ → ℕ → Lexeme → ℕ → Token
 token_of text blanks rest line x n =
     record { kind = kind_of x; from = place_of text rest; to = place_of text (drop n rest); line = line; after_break = nat_lt (line_ends rest) (line_ends blanks) }
+
+-- a token, or the end of the text
+abbrev pub IsNext : List ℕ → Lexeme → ℕ → Type 0
+IsNext [] x n = (x ≡ Lexeme.over) × (n ≡ 0)
+IsNext (c ∷ s) x n = Begins (c ∷ s) x n
+
+-- the line after some more, which stands still at the greatest u32
+abbrev pub line_after : ℕ → ℕ → ℕ
+line_after line more = min (line + more) (2 ^ 32 - 1)
+
+-- What may be answered for the next token from a rest of the text on, which begins on this line.
+abbrev pub NextFrom : List ℕ → List ℕ → ℕ → Result Token LexFault → Type 0
+NextFrom text i line (Ok t) =
+    (j : List ℕ) × (x : Lexeme) × (n : ℕ) × Blanks i j × IsNext j x n × (t ≡ token_of text i j (line_after line (line_ends i - line_ends j)) x n)
+NextFrom text i line (Err f) = (j : List ℕ) × Blanks i j × (blank_length j ≡ 0) × (fault_at j ≡ Some f)
 
 -- The tokens from a rest of the text on, the last of them of kind `End`, or those up to the first fault.
 pub data TokensFrom (text : List ℕ) : List ℕ → List Token → Option LexFault → Type 0 where

@@ -12,6 +12,7 @@ mod tests;
 mod token;
 mod tree;
 
+pub use characters::{is_letter, is_line_end, is_part, is_white};
 pub use names::is_name;
 pub use reader::{ReadStop, one_script_per_text, read_script};
 pub use spelled::Checked;

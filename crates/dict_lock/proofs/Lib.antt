@@ -1,0 +1,9 @@
+pub mod Sums
+pub mod Histories
+pub mod Knowing
+pub mod Turning
+pub mod Writing
+pub mod Sharing
+pub mod Steps
+pub mod Calls
+pub mod Own

@@ -1,0 +1,11 @@
+use Rattle.std.proofs.Common.{◌≡◌, ◌<◌, ◌-◌, length}
+use Rattle.njs_meaning.specs.Chains.{own_read, first_found, chain}
+use Rattle.njs_clone.proofs.Chains.{found_from}
+use Rattle.njs_clone.proofs.machine.Machine.get.Given as goal
+
+-- what the rest of the chain gives
+abbrev pub invariant-loop-step : goal.invariant-loop-step
+invariant-loop-step l = record {
+  within : l.at.0 < length l.self.objects;
+  rest : found_from (own_read l.name) l.self.objects (length l.self.objects - l.step) l.at.0 ≡ found_from (own_read l.name) l.self.objects (length l.self.objects) l.fn.object.0;
+}

@@ -1,0 +1,4 @@
+pub mod Content
+pub mod Gives
+pub mod Scopes
+pub mod StandsFor

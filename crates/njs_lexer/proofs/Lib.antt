@@ -1,0 +1,10 @@
+pub mod Once
+pub mod Texts
+pub mod Runs
+pub mod Blocks
+pub mod Words
+pub mod LongestNumber
+pub mod LongestMark
+pub mod StringEnds
+pub mod Cutting
+pub mod Symbols

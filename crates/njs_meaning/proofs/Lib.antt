@@ -1,0 +1,3 @@
+mod Ends
+mod Digits
+pub mod Safe

@@ -1,0 +1,13 @@
+use Rattle.std.proofs.Common.{◌≡◌, length, reverse}
+use denote.Text.{Utf8}
+use denote.Shadow.{shadow}
+use Rattle.std.specs.Str.{chars}
+use Rattle.njs_meaning.specs.Numbers.{without_front}
+use Rattle.njs_meaning.proofs.literal.trimmed_back.Given as goal
+
+-- what is passed over is white
+abbrev pub invariant-loop-before : goal.invariant-loop-before
+invariant-loop-before l = shadow (Utf8 l.rest) × (without_front (reverse (chars l.rest)) ≡ without_front (reverse (chars l.text)))
+
+abbrev pub decreases-loop-before : goal.decreases-loop-before
+decreases-loop-before l = length (chars l.rest)

@@ -1,0 +1,12 @@
+pub mod Primitives
+pub mod Numbers
+pub mod Operators
+pub mod Values
+pub mod Properties
+pub mod Arrays
+pub mod Chains
+pub mod Objects
+pub mod PlainHeap
+pub mod State
+pub mod Errors
+pub mod Conversions

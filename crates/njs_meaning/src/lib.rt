@@ -1,0 +1,12 @@
+//! The meaning of the language: definitions, and beside those that compute plain programs that give them.
+#![tactic(auto)]
+
+mod level;
+mod literal;
+mod numbers;
+mod prototypes;
+
+pub use level::{Hint, Level};
+pub use literal::number_of_text;
+pub use numbers::{signed_32, unsigned_32};
+pub use prototypes::Prototype;
