@@ -1,0 +1,4 @@
+use Rattle.dict_pass.proofs.zones.end_passes.Given as goal
+
+abbrev pub decreases-loop-pass : goal.decreases-loop-pass
+decreases-loop-pass g l = goal.left-loop-pass g l

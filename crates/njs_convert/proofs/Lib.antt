@@ -1,0 +1,7 @@
+mod Lookups
+mod Outcomes
+mod Messages
+mod Grown
+mod Made
+mod Thrown
+mod ShownTexts

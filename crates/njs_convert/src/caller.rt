@@ -1,0 +1,124 @@
+// What a built-in or a conversion may do to whoever called it.
+ghost use Rattle.std.specs.Prelude.{◌≡◌, ◌≤◌, ◌<◌, ◌-◌, ◌++◌, ◌∷◌, [], ℕ, List, length, map, IfOk, OnOk, OnErr, Err};
+ghost use Rattle.std.specs.Borrow.{Lends, sem};
+ghost use Rattle.std.specs.List.{AllByRecursion};
+ghost use Rattle.njs_shared.specs.Heap.{Heap, sizes};
+ghost use Rattle.njs_shared.specs.Fits.{FitsValue};
+ghost use Rattle.njs_clone.specs.Content.{content};
+ghost use Rattle.njs_meaning.specs.State.{State, Entry, Call};
+ghost use Rattle.njs_meaning.specs.Errors.{first_count};
+ghost use Rattle.njs_clone.specs.StandsFor.{plain_objects};
+ghost use Rattle.njs_convert.specs.Tells.{Means, ShowsValue, Grows, Extends, FitsAnswer};
+
+use crate::Stop;
+use njs_clone::Machine;
+use njs_meaning::Level;
+use njs_text::{Steps, Text};
+use njs_value::Value;
+use std::alloc::Global;
+use std::sync::ledger::Ledger;
+
+/// Who called, and what calls of values, ticks and the log mean to it. A machine stands for states of a run
+/// (`stands`), whose objects are the machine's by content, and whose ticks and log are the caller's.
+pub trait Caller<L: Ledger> {
+    /// The states of the run that a heap stands for under this caller.
+    ghost stands: { Self → Heap → State → Type 0 };
+
+    /// Its calls are what this meaning says.
+    ghost follows: { Self → Call → Type 0 };
+
+    /// The log.
+    ghost log: { Self → List Entry };
+
+    /// The ticks left.
+    ghost ticks_of: { Self → ℕ };
+
+    /// Calls may be made now.
+    ghost may_call: { Self → Type 0 };
+
+    /// The heaps that fit it.
+    ghost fits: { Self → Heap → Type 0 };
+
+    /// The references that it works over, by their names.
+    ghost lent: { Self → List ℕ };
+
+    /// Calls a value with `this` and arguments.
+    fn call(
+        &mut self,
+        alloc: Global,
+        machine: &mut Machine<'_>,
+        callee: Value,
+        this: Value,
+        args: &[Value],
+        steps: &mut Steps<L>,
+    ) -> Result<Value, Stop>
+        requires may { may_call self.old }
+        requires fits { fits self.old machine.old }
+        requires first { first_count ≤ length machine.old.objects }
+        requires callee { FitsValue (sizes machine.old) callee }
+        requires this { FitsValue (sizes machine.old) this }
+        requires args { AllByRecursion (FitsValue (sizes machine.old)) args.now }
+        ensures told { (m : Call) → follows self.old m → Means (stands self.old machine.old) (stands self.new machine.new) machine.new.texts (ShowsValue machine.new.texts) result (m (content machine.old.texts callee) (content machine.old.texts this) (map (content machine.old.texts) args.now)) }
+        ensures kept { (m : Call) → follows self.old m → follows self.new m }
+        ensures may { may_call self.new }
+        ensures fits { fits self.new machine.new }
+        ensures same { lent self.new ≡ lent self.old }
+        ensures grows { Grows machine.old machine.new }
+        ensures value { FitsAnswer (FitsValue (sizes machine.new)) (sizes machine.new) result };
+
+    /// Takes ticks. `Fuel` comes exactly where fewer are left, and then none is taken.
+    fn charge(&mut self, ticks: u64) -> Result<(), Stop>
+        ensures ok { OnOk result ((ticks ≤ ticks_of self.old) × (ticks_of self.new ≡ ticks_of self.old - ticks)) }
+        ensures err { OnErr result ((result ≡ Err Stop.Fuel) × (ticks_of self.old < ticks) × (ticks_of self.new ≡ ticks_of self.old)) }
+        ensures log { log self.new ≡ log self.old }
+        ensures stands { (h : Heap) (s : State) → stands self.old h s → stands self.new h (record s { ticks = ticks_of self.new }) }
+        ensures kept { (m : Call) → follows self.old m → follows self.new m }
+        ensures may { may_call self.old → may_call self.new }
+        ensures fits { (h : Heap) → fits self.old h → fits self.new h }
+        ensures same { lent self.new ≡ lent self.old };
+
+    /// Adds an entry to the log.
+    fn note(&mut self, alloc: Global, level: Level, text: &Text) -> Result<(), Stop>
+        ensures ok { OnOk result (log self.new ≡ log self.old ++ record { level = level; text = text.now } ∷ []) }
+        ensures err { OnErr result (result ≡ Err Stop.NoMemory) }
+        ensures ticks { ticks_of self.new ≡ ticks_of self.old }
+        ensures stands { OnOk result ((h : Heap) (s : State) → stands self.old h s → stands self.new h (record s { log = log self.new })) }
+        ensures kept { (m : Call) → follows self.old m → follows self.new m }
+        ensures may { may_call self.old → may_call self.new }
+        ensures fits { (h : Heap) → fits self.old h → fits self.new h }
+        ensures same { lent self.new ≡ lent self.old };
+
+    ghost objects_are: { (c : Self) (h : Heap) (s : State) → stands c h s → s.objects ≡ plain_objects h };
+
+    ghost ticks_are: { (c : Self) (h : Heap) (s : State) → stands c h s → s.ticks ≡ ticks_of c };
+
+    ghost log_is: { (c : Self) (h : Heap) (s : State) → stands c h s → s.log ≡ log c };
+
+    ghost stands_on: { (c : Self) (h k : Heap) (s : State) → stands c h s → Extends h k → stands c k (record s { objects = plain_objects k }) };
+
+    ghost fits_on: { (c : Self) (h k : Heap) → fits c h → Extends h k → fits c k };
+}
+
+/// A caller that works over a host, which it lends: so a built-in that a script calls back reaches the same one.
+pub trait HostCaller<H, L: Ledger>: Caller<L> {
+    /// The host.
+    ghost host_of: { Self → H };
+
+    /// The caller with another host.
+    ghost with_host: { Self → H → Self };
+
+    /// Lends the host.
+    fn host(&mut self) -> &mut H
+        ensures* lends { sem 𝓛 (Lends Self.row H.row self.entry result (with_host self.old)) }
+        ensures value { result.now ≡ host_of self.old };
+
+    ghost host_with: { (c : Self) (h : H) → host_of (with_host c h) ≡ h };
+
+    ghost ticks_with: { (c : Self) (h : H) → Self.ticks_of (with_host c h) ≡ Self.ticks_of c };
+
+    ghost lent_with: { (c : Self) (h : H) → Self.lent (with_host c h) ≡ Self.lent c };
+
+    ghost follows_with: { (c : Self) (h : H) (m : Call) → Self.follows c m → Self.follows (with_host c h) m };
+
+    ghost may_call_with: { (c : Self) (h : H) → Self.may_call c → Self.may_call (with_host c h) };
+}
