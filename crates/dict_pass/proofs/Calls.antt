@@ -10,9 +10,9 @@ use Rattle.dict_model.specs.Calls.{Calls}
 use Rattle.dict_lock.specs.declared.stop.SplitStop.{SplitStop}
 use Rattle.dict_lock.specs.declared.stop.SplitStop.TheVariants.{Spent}
 use Rattle.dict_lock.specs.Views.{calls_by, entry_by}
-use Rattle.dict_lock.specs.Known.{ZoneName, Caller, IsCaller, IsReply, Stays, Commits}
+use Rattle.dict_lock.specs.Known.{ZoneName, Caller, IsCaller, IsReply, IsNewFrom, Learns, Stays, Commits}
 use Rattle.dict_lock.proofs.Own.{adds_own}
-use Rattle.dict_pass.specs.Callers.{ComesLater, EachPair, Asks, KnownAt, IsStopped, own_of, spec_of, specs_of, zone_of}
+use Rattle.dict_pass.specs.Callers.{ComesLater, EachPair, EachTriple, Asks, KnownAt, IsStopped, own_of, spec_of, specs_of, zone_of}
 use Rattle.dict_pass.specs.Later.{later_reflexive}
 
 -- a zone that can be asked is there
@@ -114,3 +114,38 @@ later_zones [] [] later = refl
 later_zones [] (y ∷ ys) later = absurd later
 later_zones (x ∷ xs) [] later = absurd later
 later_zones (x ∷ xs) (y ∷ ys) later = λ i. later.0.zone i ∷ later_zones xs ys later.1 i
+
+-- where a triple of passes is related, so are their callers of each zone
+pub at_triple : (R : Caller → Caller → Caller → Type 0) (xs ys zs : List Caller) (at : ℕ) (z : Caller) → EachTriple R xs ys zs → slice_get zs at ≡ Some z → (x : Caller) × (y : Caller) × R x y z × (slice_get xs at ≡ Some x)
+at_triple R [] [] [] at z each is = absurd (cc)
+at_triple R [] [] (c ∷ zs) at z each is = absurd each
+at_triple R [] (y ∷ ys) zs at z each is = absurd each
+at_triple R (x ∷ xs) [] zs at z each is = absurd each
+at_triple R (x ∷ xs) (y ∷ ys) [] at z each is = absurd each
+at_triple R (x ∷ xs) (y ∷ ys) (c ∷ zs) zero z each is = let same : c ≡ z = cc in (x, y, subst (R x y) same each.0, refl)
+at_triple R (x ∷ xs) (y ∷ ys) (c ∷ zs) (suc at) z each is = at_triple R xs ys zs at z each.1 is
+
+caller_there : (xs : List Caller) (at : ℕ) (spec : ZoneSpec) → slice_get (specs_of xs) at ≡ Some spec → (k : Caller) × (slice_get xs at ≡ Some k)
+caller_there [] at spec exists = absurd (cc)
+caller_there (x ∷ xs) zero spec exists = (x, refl)
+caller_there (x ∷ xs) (suc at) spec exists = caller_there xs at spec exists
+
+put_there : (xs : List Caller) (at : ℕ) (k k' : Caller) → slice_get xs at ≡ Some k → slice_get (set xs at k') at ≡ Some k'
+put_there [] at k k' was = absurd (cc)
+put_there (x ∷ xs) zero k k' was = refl
+put_there (x ∷ xs) (suc at) k k' was = put_there xs at k k' was
+
+-- a new caller that learns has made no call yet
+pub none_made : (xs ys zs os ws : List Caller) (at : ℕ) (spec : ZoneSpec) → EachTriple IsNewFrom xs ys zs → EachTriple Learns zs os ws → slice_get (specs_of ws) at ≡ Some spec → KnownAt ws at (λ k. k.mine ≡ [])
+none_made xs ys zs os ws at spec new learns exists =
+    let w = caller_there ws at spec exists in
+    let z = at_triple Learns zs os ws at w.0 learns w.1 in
+    let x = at_triple IsNewFrom xs ys zs at z.0 new z.3 in
+    (w.0, (w.1, ap (λ k. k.mine) z.2.rest ∙ ap (λ k. k.mine) x.2.3))
+
+-- its first call is its one entry
+pub one_made : (xs ys : List Caller) (at : ℕ) (op : DictOp) (reading : ℕ) (r : Result DictReply NoMemory) → KnownAt xs at (λ k. k.mine ≡ []) → Asks xs ys at op reading r → IfOk r (λ _. KnownAt ys at (λ k. length k.mine ≡ 1))
+one_made xs ys at op reading (Ok x) none a =
+    let none_before : a.before.mine ≡ [] = subst (λ k. k.mine ≡ []) (only_one xs at a.before none.0 a.was none.1) none.2 in
+    (a.after, (ap (λ l. slice_get l at) a.changed ∙ put_there xs at a.before a.after a.was, ap length (a.related.commits.seen.2 ∙ ap (λ l. l ++ length (a.before.seen ++ a.related.commits.seen.0) ∷ []) none_before)))
+one_made xs ys at op reading (Err y) none a = tt

@@ -1,9 +1,9 @@
 // A caller of all zones.
 ghost use Rattle.std.specs.Prelude.{◌≡◌, ◌<◌, ◌+◌, ◌^◌, map, length, IfOk, IsOk, MatchResult};
 ghost use Rattle.dict_model.specs.Operation.{TakesNoMemory};
-ghost use Rattle.dict_model.specs.Calls.{IsAsked};
+ghost use Rattle.dict_model.specs.Calls.{Calls, IsAsked};
 ghost use Rattle.dict_lock.specs.Known.{Stays, Learns, Closes, IsCaller, IsNewFrom};
-ghost use Rattle.dict_pass.specs.Callers.{Asks, EachPair, EachTriple, IsStopped, KnownAt, SameZones, dealer, opened, specs_of, zone_of};
+ghost use Rattle.dict_pass.specs.Callers.{Asks, ComesLater, EachPair, EachTriple, IsStopped, KnownAt, SameZones, dealer, opened, own_of, specs_of, zone_of};
 
 use crate::seats::{close_all, deal_all, end_all, learn_all, split_all};
 use dict_lock::{SplitStop, Zone, ZoneSeat};
@@ -34,8 +34,6 @@ impl<'z, R> Model for Pass<'z, R> {
 }
 
 impl<'z, R: Wait> Dicts for Pass<'z, R> {
-    ghost use Rattle.std.specs.Prelude.{map};
-    ghost use Rattle.dict_pass.specs.Callers.{ComesLater, EachPair, own_of, specs_of};
     ghost use Rattle.dict_pass.specs.Later.{later_reflexive, later_transitive};
 
     ghost specs = { λ p. specs_of p };
@@ -54,7 +52,16 @@ impl<'z, R: Wait> Dicts for Pass<'z, R> {
         zone: u32,
         op: DictOp,
         reading: u64,
-    ) -> Result<DictReply, NoMemory> {
+    ) -> Result<DictReply, NoMemory>
+        requires asked { IsAsked (specs_of self.old) zone op }
+        requires reading { reading < 2 ^ 53 }
+        ensures specs { specs_of self.new ≡ specs_of self.old }
+        ensures calls { Calls (specs_of self.old) (map own_of self.old) (map own_of self.new) zone op reading result }
+        ensures later { EachPair ComesLater self.old self.new }
+
+        // The new entry stands in a legal history, which begins with what had been seen.
+        ensures asks { Asks self.old self.new zone op reading result }
+    {
         self.is_caller(zone);
         self.ask(alloc, zone, op, reading)
     }

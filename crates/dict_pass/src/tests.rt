@@ -1,7 +1,7 @@
 // Calls of several passes. The numbers follow from one history: each call of `Incr` adds 1.
-ghost use Rattle.std.specs.Prelude.{◌≡◌, ◌<◌, ◌++◌, [], ◌∷◌, true, All, IfOk, vec_len};
+ghost use Rattle.std.specs.Prelude.{◌≡◌, ◌<◌, ◌++◌, [], ◌∷◌, true, All, length, IfOk, vec_len};
 ghost use Rattle.dict_model.specs.Operation.{IsSpec};
-ghost use Rattle.dict_pass.specs.Callers.{IsOfNumbers, SameZones, specs_of};
+ghost use Rattle.dict_pass.specs.Callers.{IsOfNumbers, KnownAt, SameZones, specs_of};
 
 use super::*;
 use dict_lock::SplitStop;
@@ -56,6 +56,16 @@ fn get<D: Dicts>(alloc: Global, dicts: &mut D) -> Result<DictReply, NoMemory>
 {
     let key = text(alloc, "n")?;
     dicts.call(alloc, 0, DictOp::Get(key), 5)
+}
+
+// The first call of a pass that has made none is its one entry in the history.
+fn first_get<R: Wait>(alloc: Global, pass: &mut Pass<'_, R>) -> Result<DictReply, NoMemory>
+    requires numbers { IsOfNumbers (specs_of pass.old) 0 }
+    requires none { KnownAt pass.old 0 (λ k. k.mine ≡ []) }
+    ensures { IfOk result (λ _. KnownAt pass.new 0 (λ k. length k.mine ≡ 1)) }
+{
+    let key = text(alloc, "n")?;
+    pass.ask(alloc, 0, DictOp::Get(key), 5)
 }
 
 // Adds so many times, and says whether each call answered a number.
@@ -195,7 +205,7 @@ fn learn_and_get<R: Wait>(
     let added = add_one(alloc, &mut main, 1);
     other.learn(&mut main);
     let made = known(&other);
-    let found = get(alloc, &mut other);
+    let found = first_get(alloc, &mut other);
     main.end();
     other.end();
     Ok((added, found, made))
