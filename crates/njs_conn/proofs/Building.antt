@@ -4,8 +4,8 @@ use Rattle.std.proofs.lemmas.List.{append-nil, map-append, drop_all}
 use Rattle.njs_tree.specs.declared.tree.Script.{Script}
 use Rattle.njs_edge.specs.Files.{HasFront, Grew}
 use Rattle.njs_edge.specs.Known.{grew_same, grew_more}
-use Rattle.njs_conn.specs.declared.conf.Import.{Import}
-use Rattle.njs_conn.specs.declared.conf.Conf.{Conf}
+use Rattle.conf_read.specs.declared.conf.Import.{Import}
+use Rattle.conf_read.specs.declared.conf.Conf.{Conf}
 use Rattle.njs_conn.specs.declared.script.ScriptWhy.{ScriptWhy}
 use Rattle.njs_conn.specs.declared.script.ScriptStop.{ScriptStop}
 use Rattle.njs_conn.specs.declared.script.ScriptStop.TheVariants as stops

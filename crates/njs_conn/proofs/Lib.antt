@@ -1,9 +1,5 @@
-pub mod Parts
-pub mod Targets
-pub mod Fronts
-pub mod RequestForm
-pub mod Reading
 pub mod Writing
+pub mod Refusals
 pub mod Serving
 pub mod Building
 pub mod FirstForm

@@ -1,22 +1,22 @@
 -- What a connection is answered.
-use Rattle.std.specs.Prelude.{ℕ, zero, suc, List, [], ◌++◌, ◌≡◌, ◌⊎◌, Option, Bool, nat_lt, false, encode_utf8_all}
+use Rattle.std.specs.Prelude.{ℕ, ◌+◌, List, [], ◌∷◌, ◌++◌, ◌≡◌, ◌⊎◌, Option, Bool, false, bytes_eq, codes, encode_utf8_all}
 use Rattle.std.specs.Io.KnownBytes.{Consumes, Appends, IsAtEnd}
+use Rattle.http_in.specs.declared.request.Request.{Request}
+use Rattle.http_in.specs.Requests as requests
+use Rattle.http_in.specs.Requests.{Whole, Refused, StandsAt, GoesOn, Ending, Requests}
+use Rattle.http_out.specs.Response.{response_bytes}
 use Rattle.njs_conn.specs.declared.connection.ConnEnd.{ConnEnd}
 use Rattle.njs_conn.specs.declared.connection.ConnEnd.TheVariants as ends
-use Rattle.njs_conn.specs.declared.request.Request.{Request}
 use Rattle.njs_conn.specs.Dictionary.{Operation, Call, Replies}
 use Rattle.njs_conn.specs.Site.{Site}
-use Rattle.http_out.specs.Response.{response_bytes}
 use Rattle.njs_conn.specs.Meaning.{plain_text, reply_of}
-use Rattle.njs_conn.specs.Request as requests
-use Rattle.njs_conn.specs.Request.{Front, front}
 use Rattle.njs_conn.specs.Writer.{IsFront}
 
 -- how the requests of a connection end; a script may also wait for a dictionary's reply
 pub data End : Type 0 where
   InputEnds : End
   CutOff : End
-  Refused : ℕ → End
+  RefusedWith : ℕ → End
   Closed : End
   Waits : ℕ → Operation → End
 
@@ -33,12 +33,20 @@ pub data Step : Type 0 where
   Done : List ℕ → List (List ℕ) → List Call → Replies → Step
   Asks : ℕ → Operation → List Call → Step
 
-abbrev pub response_of : Site → Request → Bool → List ℕ
-response_of site request keep = response_bytes (reply_of site request) keep false
+-- HEAD is answered without the content (RFC 9110 §9.3.2)
+abbrev pub is_head : Request → Bool
+is_head request = bytes_eq (encode_utf8_all request.method) (codes "HEAD")
+
+abbrev pub response_of : Site → Request → List ℕ
+response_of site request = response_bytes (reply_of site request) request.keep (is_head request)
+
+-- the response to bytes that are refused as a request
+abbrev pub refusal : ℕ → List ℕ
+refusal status = response_bytes (plain_text status []) false false
 
 -- one request, whose scripts start afresh; they neither log nor ask a dictionary yet
-abbrev pub next : Site → List ℕ → Request → Bool → Replies → Step
-next site peer request keep replies = Done (response_of site request keep) [] [] replies
+abbrev pub next : Site → List ℕ → Request → Replies → Step
+next site peer request replies = Done (response_of site request) [] [] replies
 
 -- some bytes, lines and calls, and then what is answered
 abbrev pub after : List ℕ → List (List ℕ) → List Call → Answer → Answer
@@ -52,30 +60,39 @@ abbrev pub continued : Step → (Replies → Answer) → Answer
 continued (Done bytes log calls left) later = after bytes log calls (later left)
 continued (Asks zone operation calls) later = record { bytes = []; log = []; calls = calls; end = Waits zone operation }
 
--- what stands at a place, where later gives what is answered to the bytes behind
-abbrev pub answered : (List ℕ → Replies → Answer) → Bool → Site → List ℕ → Replies → Front → Answer
-answered later keep site peer replies (requests.Whole request rest) = continued (next site peer request keep replies) (λ left. later rest left)
-answered later keep site peer replies (requests.Bad status) = ending (response_bytes (plain_text status []) false false) (Refused status)
-answered later keep site peer replies requests.Ended = ending [] InputEnds
-answered later keep site peer replies requests.CutOff = ending [] CutOff
+-- what is answered where no request is left
+abbrev pub ended : Ending → Answer
+ended requests.Closed = ending [] Closed
+ended requests.End = ending [] InputEnds
+ended requests.Cut = ending [] CutOff
+ended (requests.Bad status) = ending (refusal status) (RefusedWith status)
 
--- with so many requests still allowed; the last one closes the connection
-unfoldable pub answers_within : ℕ → Site → List ℕ → List ℕ → Replies → Answer
-answers_within zero site peer bytes replies = ending [] Closed
-answers_within (suc n) site peer bytes replies = answered (λ rest left. answers_within n site peer rest left) (nat_lt 0 n) site peer replies (front bytes)
+-- what is answered to the requests of a connection and their end, by the replies of dictionaries
+abbrev pub answers : Site → List ℕ → List Request → Ending → Replies → Answer
+answers site peer [] end replies = ended end
+answers site peer (request ∷ others) end replies = continued (next site peer request replies) (λ left. answers site peer others end left)
 
-abbrev pub max_requests : ℕ
-max_requests = 1000
+-- the bytes begin with these requests, and a refusal that is said to be their end stands behind them
+abbrev pub BeginsWith : ℕ → List ℕ → List Request → Ending → Type 0
+BeginsWith number bytes [] (requests.Bad status) = StandsAt number bytes (Refused status)
+BeginsWith number bytes [] _ = Unit {0}
+BeginsWith number bytes (request ∷ others) end =
+    (rest : List ℕ) × StandsAt number bytes (Whole request rest) × GoesOn request.keep others end (BeginsWith (number + 1) rest others end)
 
--- what is answered to the bytes of a connection, by the replies of dictionaries
-abbrev pub answers : Site → List ℕ → List ℕ → Replies → Answer
-answers site peer bytes replies = answers_within max_requests site peer bytes replies
+-- How the bytes that were taken are read, behind so many requests: as all their requests and their end, or after a fault of writing or want of
+-- memory as those that stand first.
+abbrev pub IsReadAs : ConnEnd → ℕ → List ℕ → List Request → Ending → Type 0
+IsReadAs ends.Finished number bytes all end = Requests number bytes all end
+IsReadAs ends.Cut number bytes all end = Requests number bytes all end
+IsReadAs ends.ReadFault number bytes all end = Requests number bytes all end
+IsReadAs ends.WriteFault number bytes all end = BeginsWith number bytes all end
+IsReadAs ends.NoMemory number bytes all end = BeginsWith number bytes all end
 
 -- the input ended between requests, or the connection was closed
 abbrev pub IsFinish : End → Option (List ℕ) → Type 0
 IsFinish InputEnds left = IsAtEnd left
 IsFinish CutOff left = ⊥
-IsFinish (Refused status) left = Unit {0}
+IsFinish (RefusedWith status) left = Unit {0}
 IsFinish Closed left = Unit {0}
 IsFinish (Waits zone operation) left = ⊥
 
@@ -87,11 +104,14 @@ EndsAs ends.ReadFault answer grew left = (grew ≡ answer.bytes) × ((answer.end
 EndsAs ends.WriteFault answer grew left = IsFront grew answer.bytes
 EndsAs ends.NoMemory answer grew left = IsFront grew answer.bytes
 
--- What a call does to its source and sink: it takes some bytes, and the sink gets what is answered to them, or a front of it. A site has no
+-- What a call does to its source and sink: it takes some bytes, and the sink gets what is answered to their requests, or a front of it. A site has no
 -- dictionaries yet, so there are no replies.
 pub record Serves (site : Site) (peer : List ℕ) (left left' got got' : Option (List ℕ)) (result : ConnEnd) : Type 0 where
   pub taken : List ℕ
   pub grew : List ℕ
+  pub all : List Request
+  pub end : Ending
   pub read : Consumes left left' taken
   pub wrote : Appends got got' grew
-  pub ends : EndsAs result (answers site peer taken []) grew left'
+  pub read_as : IsReadAs result 0 taken all end
+  pub ends : EndsAs result (answers site peer all end []) grew left'

@@ -1,7 +1,3 @@
-pub mod Conf
-pub mod Request
-pub mod RequestForm
-pub mod Reader
 pub mod Site
 pub mod SiteCode
 pub mod Dictionary

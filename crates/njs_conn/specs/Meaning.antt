@@ -14,9 +14,9 @@ use Rattle.njs_tree.specs.declared.tree.ForFirst.{ForFirst}
 use Rattle.njs_tree.specs.declared.tree.ForInHead.{ForInHead}
 use Rattle.njs_tree.specs.declared.tree.Case.{Case}
 use Rattle.http_out.specs.declared.reply.Reply.{Reply}
-use Rattle.njs_conn.specs.declared.conf.Location.{Location}
-use Rattle.njs_conn.specs.declared.request.Request.{Request}
-use Rattle.njs_conn.specs.Conf.{chosen}
+use Rattle.conf_read.specs.declared.conf.Location.{Location}
+use Rattle.http_in.specs.declared.request.Request.{Request}
+use Rattle.conf_read.specs.Choose.{choice}
 use Rattle.njs_conn.specs.Site.{Site}
 
 -- the node of an expression and of a statement, by its cases
@@ -177,7 +177,7 @@ located site None = without_location
 located site (Some location) = or_failure (handled_by site location)
 
 abbrev pub location_of : Site → List ℕ → Option Location
-location_of site path = chosen site.conf.locations path >>= λ n. slice_get site.conf.locations n
+location_of site path = choice site.conf.locations path >>= λ n. slice_get site.conf.locations n
 
 -- what a request is answered
 abbrev pub reply_of : Site → Request → Reply

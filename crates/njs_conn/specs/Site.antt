@@ -7,8 +7,8 @@ use Rattle.njs_edge.specs.Files.{HasFront, Grew}
 use Rattle.njs_tree.specs.declared.tree.Script.{Script}
 use Rattle.njs_tree.specs.Script.{Spells}
 use Rattle.njs_tree.specs.Characters.{IsLine}
-use Rattle.njs_conn.specs.declared.conf.Import.{Import}
-use Rattle.njs_conn.specs.declared.conf.Conf.{Conf}
+use Rattle.conf_read.specs.declared.conf.Import.{Import}
+use Rattle.conf_read.specs.declared.conf.Conf.{Conf}
 use Rattle.njs_conn.specs.declared.script.ScriptWhy.{ScriptWhy}
 use Rattle.njs_conn.specs.declared.script.ScriptWhy.TheVariants as whys
 use Rattle.njs_conn.specs.declared.script.ScriptStop.{ScriptStop}

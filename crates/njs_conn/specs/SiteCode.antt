@@ -3,8 +3,8 @@ use Rattle.std.specs.Prelude.{List, refl}
 use Rattle.std.specs.Coded.{Coded, code_by, coded×, coded_list}
 use Rattle.njs_tree.specs.declared.tree.Script.{Script}
 use Rattle.njs_tree.specs.contracts.tree.Script as scripts
-use Rattle.njs_conn.specs.declared.conf.Conf.{Conf}
-use Rattle.njs_conn.specs.contracts.conf.Conf as confs
+use Rattle.conf_read.specs.declared.conf.Conf.{Conf}
+use Rattle.conf_read.specs.contracts.conf.Conf as confs
 use Rattle.njs_conn.specs.Site.{Site}
 
 abbrev pub site_code : Coded Site

@@ -1,12 +1,12 @@
 // Builds a site: reads the files of its scripts, and then the scripts.
 ghost use Rattle.std.specs.Prelude.{IfErr, IfOk, map};
 ghost use Rattle.njs_edge.specs.Causes.{Counts};
-ghost use Rattle.njs_conn.specs.Conf.{IsWithinLimits};
+ghost use Rattle.conf_read.specs.Limits.{IsWithinLimits};
 ghost use Rattle.njs_conn.specs.Site.{AsksAlong, IsFileFault, Names, NamesNoScript, ReadsAll, SiteFrom, Unread, TreesFrom, file_names};
 
-use crate::conf::{Conf, Import};
 use crate::script::{MAX_SCRIPT, ScriptStop, ScriptWhy, script_from};
 use crate::site::Site;
+use conf_read::{Conf, Import};
 use njs_edge::{FileStop, Files};
 use njs_text::{List, NoMemory, Text};
 use njs_tree::Checked;

@@ -1,20 +1,18 @@
 // Serves one connection.
 ghost use Rattle.std.specs.Prelude.{◌≡◌, ◌≤◌};
 ghost use Rattle.njs_edge.specs.Causes.{Counts};
-ghost use Rattle.std.specs.Prelude.{◌<◌, [], false};
+ghost use Rattle.std.specs.Prelude.{◌<◌, false};
 ghost use Rattle.std.specs.Io.KnownBytes.{Keeps};
-ghost use Rattle.njs_conn.specs.Answers.{Serves, response_of};
-ghost use Rattle.njs_conn.specs.Meaning.{plain_text};
+ghost use Rattle.njs_conn.specs.Answers.{Serves, is_head, refusal, response_of};
 ghost use Rattle.http_out.specs.Reply.{IsReply};
 ghost use Rattle.http_out.specs.Response.{response_bytes};
 ghost use Rattle.njs_conn.specs.Writer.{Sends};
 
 use crate::plain::without_body;
-use crate::reader::{Next, Reader};
-use crate::request::Request;
 use crate::running::reply_to;
 use crate::site::Loaded;
 use crate::writer::{Written, write_whole};
+use http_in::{Next, Reader, Request};
 use http_out::{Reply, response};
 use njs_edge::{Sink, Source};
 use njs_text::{Steps, Text};
@@ -43,16 +41,13 @@ pub enum Sent {
     NoMemory,
 }
 
-/// How many requests of a connection are answered.
-const MAX_REQUESTS: u32 = 1000;
-
 // Writes one response.
-fn send<K: Sink>(alloc: Global, reply: &Reply, keep: bool, sink: &mut K) -> Sent
+fn send<K: Sink>(alloc: Global, reply: &Reply, keep: bool, head_only: bool, sink: &mut K) -> Sent
     requires valid { IsReply reply.now }
-    ensures sent { Sends (K.got sink.old) (K.got sink.new) (response_bytes reply.now keep false) result }
+    ensures sent { Sends (K.got sink.old) (K.got sink.new) (response_bytes reply.now keep head_only) result }
     ensures cause { Counts (K.faults sink.old) (K.faults sink.new) (result ≡ Sent.Failed) }
 {
-    let Ok(bytes) = response(alloc, reply, keep, false) else {
+    let Ok(bytes) = response(alloc, reply, keep, head_only) else {
         return Sent::NoMemory;
     };
     match write_whole(sink, bytes.as_slice()) {
@@ -61,35 +56,35 @@ fn send<K: Sink>(alloc: Global, reply: &Reply, keep: bool, sink: &mut K) -> Sent
     }
 }
 
+fn is_head(request: &Request) -> bool
+    ensures { result ≡ is_head request.now }
+{
+    request.method.as_str() == "HEAD"
+}
+
 // Answers one request.
-fn answer<K: Sink>(
-    alloc: Global,
-    loaded: &Loaded,
-    request: &Request,
-    keep: bool,
-    sink: &mut K,
-) -> Sent
-    ensures sent { Sends (K.got sink.old) (K.got sink.new) (response_of loaded.now request.now keep) result }
+fn answer<K: Sink>(alloc: Global, loaded: &Loaded, request: &Request, sink: &mut K) -> Sent
+    ensures sent { Sends (K.got sink.old) (K.got sink.new) (response_of loaded.now request.now) result }
     ensures cause { Counts (K.faults sink.old) (K.faults sink.new) (result ≡ Sent.Failed) }
 {
     let Ok(reply) = reply_to(alloc, loaded.site(), request) else {
         return Sent::NoMemory;
     };
-    send(alloc, &reply, keep, sink)
+    send(alloc, &reply, request.keep, is_head(request), sink)
 }
 
 // Answers what is refused as a request.
 fn refuse<K: Sink>(alloc: Global, status: u16, sink: &mut K) -> Sent
     requires low { 100 ≤ status }
     requires high { status < 1000 }
-    ensures sent { Sends (K.got sink.old) (K.got sink.new) (response_bytes (plain_text status []) false false) result }
+    ensures sent { Sends (K.got sink.old) (K.got sink.new) (refusal status) result }
     ensures cause { Counts (K.faults sink.old) (K.faults sink.new) (result ≡ Sent.Failed) }
 {
-    send(alloc, &without_body(alloc, status), false, sink)
+    send(alloc, &without_body(alloc, status), false, false, sink)
 }
 
-/// Answers request after request of one connection (RFC 9112 §9.3), each whole before the next is run. The thousandth request, and
-/// one that isn't of the form, close it. `peer` is the address of the other side, which no script can ask for yet.
+/// Answers request after request of one connection (RFC 9112 §9.3), each whole before the next is run, until one closes it, one
+/// is refused or the input ends. `peer` is the address of the other side, which no script can ask for yet.
 pub fn serve_connection<S: Source, K: Sink, N: Sink, L: Ledger>(
     alloc: Global,
     loaded: &Loaded,
@@ -107,15 +102,17 @@ pub fn serve_connection<S: Source, K: Sink, N: Sink, L: Ledger>(
     ensures steps { steps.new ≡ steps.old }
 {
     let mut reader = Reader::new(alloc);
-    for number in 0..MAX_REQUESTS {
+    loop {
         match reader.next(alloc, source) {
-            Next::Request(request) => {
-                match answer(alloc, loaded, &request, number + 1 < MAX_REQUESTS, sink) {
-                    Sent::Whole => {}
-                    Sent::Failed => return ConnEnd::WriteFault,
-                    Sent::NoMemory => return ConnEnd::NoMemory,
+            Next::Request(request) => match answer(alloc, loaded, &request, sink) {
+                Sent::Whole => {
+                    if !request.keep {
+                        return ConnEnd::Finished;
+                    }
                 }
-            }
+                Sent::Failed => return ConnEnd::WriteFault,
+                Sent::NoMemory => return ConnEnd::NoMemory,
+            },
             Next::Bad(status) => {
                 return match refuse(alloc, status, sink) {
                     Sent::Whole => ConnEnd::Finished,
@@ -129,5 +126,4 @@ pub fn serve_connection<S: Source, K: Sink, N: Sink, L: Ledger>(
             Next::NoMemory => return ConnEnd::NoMemory,
         }
     }
-    ConnEnd::Finished
 }

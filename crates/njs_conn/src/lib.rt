@@ -2,12 +2,9 @@
 #![tactic(auto)]
 
 mod builder;
-mod conf;
 mod connection;
 mod laws;
 mod plain;
-mod reader;
-mod request;
 mod running;
 mod script;
 mod site;
@@ -15,11 +12,8 @@ mod values;
 mod writer;
 
 pub use builder::{SiteFault, build};
-pub use conf::{Conf, Import, Location};
 pub use connection::{ConnEnd, serve_connection};
 pub use laws::accepted_scripts_answer;
-pub use reader::{Next, Reader};
-pub use request::{Miss, Request, Sight, look, request_form, request_from};
 pub use script::{MAX_SCRIPT, ScriptStop, ScriptWhy, script_from};
 pub use site::{Loaded, Site, load};
 pub use writer::{Written, write_whole};

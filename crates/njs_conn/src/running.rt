@@ -5,11 +5,11 @@ ghost use Rattle.njs_conn.specs.Meaning.{answer_of, body_of, call_of, callee_of,
 ghost use Rattle.njs_conn.specs.Running.{seen_reply, seen_value};
 ghost use Rattle.http_out.specs.Reply.{IsReply};
 
-use crate::conf::Location;
 use crate::plain::{plain_text, without_body};
-use crate::request::Request;
 use crate::site::Site;
 use crate::values::{Answer, Value};
+use conf_read::Location;
+use http_in::Request;
 use http_out::Reply;
 use njs_text::{NoMemory, Text};
 use njs_tree::{Expr, ExprNode, FunctionTree, Item, Stmt, StmtNode};

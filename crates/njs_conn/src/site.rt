@@ -1,8 +1,8 @@
 // Sites: a configuration and the trees of its scripts.
 ghost use Rattle.std.specs.Prelude.{◌≡◌, IfOk};
-ghost use Rattle.njs_conn.specs.Conf.{IsWithinLimits};
+ghost use Rattle.conf_read.specs.Limits.{IsWithinLimits};
 
-use crate::conf::Conf;
+use conf_read::Conf;
 use njs_text::{List, NoMemory};
 use njs_tree::Checked;
 use std::marker::Model;
@@ -17,7 +17,7 @@ pub struct Site {
 
 impl Model for Site {
     ghost use Rattle.njs_conn.specs.Site.{Site as SiteOf};
-    ghost use Rattle.njs_conn.specs.Conf.{IsWithinLimits};
+    ghost use Rattle.conf_read.specs.Limits.{IsWithinLimits};
     ghost use Rattle.njs_conn.specs.SiteCode.{site_code};
 
     ghost Value = { SiteOf };

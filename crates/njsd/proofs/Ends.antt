@@ -1,5 +1,5 @@
 -- A run whose last line finds no memory, and what its notes keep.
-use Rattle.std.proofs.Common.{◌≡◌, ◌⊎◌, inl, inr, ◌≤◌, ◌∙◌, ℕ, List, [], Option, sym, subst}
+use Rattle.std.proofs.Common.{◌≡◌, ◌⊎◌, inl, inr, ◌≤◌, ◌+◌, ◌∙◌, ℕ, List, [], ◌∷◌, Option, Bool, true, false, sym, subst}
 use Rattle.std.proofs.lemmas.List.{append-nil}
 use Rattle.std.specs.Io.KnownBytes.{Keeps}
 use Rattle.njs_edge.specs.Causes.{Rose}
@@ -7,7 +7,10 @@ use Rattle.njs_edge.specs.Known.{appends_behind, rose_behind}
 use Rattle.njs_conn.specs.declared.connection.ConnEnd.{ConnEnd}
 use Rattle.njs_conn.specs.declared.connection.ConnEnd.TheVariants as ends
 use Rattle.njs_conn.specs.Writer.{IsFront}
-use Rattle.njs_conn.specs.Answers.{Answer, EndsAs}
+use Rattle.http_in.specs.declared.request.Request.{Request}
+use Rattle.http_in.specs.Requests as requests
+use Rattle.http_in.specs.Requests.{GoesOn, Ending, Requests}
+use Rattle.njs_conn.specs.Answers.{Answer, BeginsWith, IsReadAs, EndsAs}
 use Rattle.njsd.specs.declared.run.Status.{Status}
 use Rattle.njsd.specs.declared.run.Status.TheVariants as status
 use Rattle.njsd.specs.Notes.{Notes}
@@ -23,6 +26,26 @@ ends_out ends.ReadFault answer grew left h = all_front grew answer.bytes h.0
 ends_out ends.WriteFault answer grew left h = h
 ends_out ends.NoMemory answer grew left h = h
 
+-- requests that are all of some bytes stand first in them
+goes_on : (P Q : Type 0) (keep : Bool) (others : List Request) (end : Ending) → (P → Q) → GoesOn keep others end P → GoesOn keep others end Q
+goes_on P Q true others end f h = f h
+goes_on P Q false others end f h = h
+
+begins : (number : ℕ) (bytes : List ℕ) (all : List Request) (end : Ending) → Requests number bytes all end → BeginsWith number bytes all end
+begins number bytes [] requests.Closed h = tt
+begins number bytes [] requests.End h = tt
+begins number bytes [] requests.Cut h = tt
+begins number bytes [] (requests.Bad status) h = h
+begins number bytes (request ∷ others) end (rest, stands, goes) =
+    (rest, stands, goes_on (Requests (number + 1) rest others end) (BeginsWith (number + 1) rest others end) request.keep others end (begins (number + 1) rest others end) goes)
+
+read_out : (result : ConnEnd) (taken : List ℕ) (all : List Request) (end : Ending) → IsReadAs result 0 taken all end → IsReadAs ends.NoMemory 0 taken all end
+read_out ends.Finished taken all end h = begins 0 taken all end h
+read_out ends.Cut taken all end h = begins 0 taken all end h
+read_out ends.ReadFault taken all end h = begins 0 taken all end h
+read_out ends.WriteFault taken all end h = h
+read_out ends.NoMemory taken all end h = h
+
 called_out : (words : List (List ℕ)) (o : Outside) (end : ConnEnd) → Called words o end → Called words o ends.NoMemory
 called_out words o end c = record {
   site = c.site;
@@ -30,8 +53,11 @@ called_out words o end c = record {
   serves = record {
     taken = c.serves.taken;
     grew = c.serves.grew;
+    all = c.serves.all;
+    end = c.serves.end;
     read = c.serves.read;
     wrote = c.serves.wrote;
+    read_as = read_out end c.serves.taken c.serves.all c.serves.end c.serves.read_as;
     ends = ends_out end _ c.serves.grew o.left' c.serves.ends;
   };
 }

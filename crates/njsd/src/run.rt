@@ -4,15 +4,13 @@ ghost use Rattle.std.specs.Io.KnownBytes.{Keeps};
 ghost use Rattle.std.specs.Option.{option_map};
 ghost use Rattle.njs_edge.specs.Causes.{Counts};
 ghost use Rattle.njs_edge.specs.Clock.{Reads};
-ghost use Rattle.njs_conn.specs.Conf.{IsWithinLimits};
+ghost use Rattle.conf_read.specs.Limits.{IsWithinLimits};
 ghost use Rattle.njsd.specs.Words.{call_conf, call_of};
 ghost use Rattle.njsd.specs.Runs.{AsksFor, IsFileFault, IsFileStop, LoadAs, LoadAsks, RunAs, status_of};
 ghost use Rattle.njsd.specs.Notes.{Notes, line_of, why_text};
 
-use njs_conn::{
-    Conf, ConnEnd, Import, Loaded, Location, ScriptWhy, SiteFault, build, load, serve_connection,
-    write_whole,
-};
+use conf_read::{Conf, Import, Location};
+use njs_conn::{ConnEnd, Loaded, ScriptWhy, SiteFault, build, load, serve_connection, write_whole};
 use njs_edge::{Clock, Files, Sink, Source};
 use njs_text::{List, NoMemory, Steps, Text};
 use njs_tree::is_name;
@@ -40,6 +38,9 @@ pub enum Status {
 /// How many ticks a request may take where no configuration says it.
 const DEFAULT_FUEL: u64 = 1_000_000;
 
+/// The port where no configuration says it.
+const DEFAULT_PORT: u16 = 8000;
+
 // The file and the handler of `call FILE NAME`.
 fn call(words: &[Text]) -> Option<(&Text, &Text)>
     ensures { option_map (λ w. (w.0.now, w.1.now)) result ≡ call_of words.now }
@@ -66,7 +67,13 @@ fn root_path() -> Text
     Text::fixed("/")
 }
 
-// The configuration of `call FILE NAME`.
+fn any_address() -> Text
+    ensures { result ≡ codes "0.0.0.0" }
+{
+    Text::fixed("0.0.0.0")
+}
+
+// The configuration of `call FILE NAME`. The connection is that on standard input, so nobody looks at the address.
 fn call_conf(alloc: Global, file: &Text, handler: &Text) -> Result<Conf, NoMemory>
     ensures { IfOk result (λ conf. conf ≡ call_conf file.now handler.now) }
 {
@@ -83,8 +90,12 @@ fn call_conf(alloc: Global, file: &Text, handler: &Text) -> Result<Conf, NoMemor
         handler: handler.copy(alloc)?,
     })?;
     Ok(Conf {
+        workers: 1,
+        host: any_address(),
+        port: DEFAULT_PORT,
         fuel: DEFAULT_FUEL,
         imports,
+        zones: List::new(alloc),
         locations,
     })
 }

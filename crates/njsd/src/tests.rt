@@ -1,9 +1,10 @@
 // The command `call` over an outside in memory.
 ghost use Rattle.std.specs.Prelude.{◌≡◌, ◌<◌, IfOk};
-ghost use Rattle.njs_conn.specs.Conf.{IsWithinLimits};
+ghost use Rattle.conf_read.specs.Limits.{IsWithinLimits};
 
 use super::*;
-use njs_conn::{Conf, Import, Location, SiteFault, build};
+use conf_read::{Conf, Import};
+use njs_conn::{SiteFault, build};
 use njs_edge::{BytesIn, BytesOut, ListClock, MapFiles};
 use njs_text::List;
 use std::alloc::Global;
@@ -23,8 +24,20 @@ const LAST: &str =
 const FAILED: &str =
     "HTTP/1.1 500 Internal Server Error\r\nContent-Type: text/plain\r\nContent-Length: 0\r\nConnection: keep-alive\r\n\r\n";
 
+const HEAD_ONLY: &str =
+    "HTTP/1.1 200 OK\r\nContent-Type: text/plain\r\nContent-Length: 12\r\nConnection: keep-alive\r\n\r\n";
+
+const BAD_REQUEST: &str =
+    "HTTP/1.1 400 Bad Request\r\nContent-Type: text/plain\r\nContent-Length: 0\r\nConnection: close\r\n\r\n";
+
+const TOO_LARGE: &str =
+    "HTTP/1.1 413 Payload Too Large\r\nContent-Type: text/plain\r\nContent-Length: 0\r\nConnection: close\r\n\r\n";
+
 const NOT_IMPLEMENTED: &str =
     "HTTP/1.1 501 Not Implemented\r\nContent-Type: text/plain\r\nContent-Length: 0\r\nConnection: close\r\n\r\n";
+
+const OTHER_VERSION: &str =
+    "HTTP/1.1 505 HTTP Version Not Supported\r\nContent-Type: text/plain\r\nContent-Length: 0\r\nConnection: close\r\n\r\n";
 
 const USAGE: &str =
     "usage: njsd call FILE NAME | once CONF | check CONF | script FILE | load N | serve CONF\n";
@@ -38,7 +51,7 @@ struct Case {
     notes: &'static str,
 }
 
-const CASES: [Case; 14] = [
+const CASES: [Case; 21] = [
     Case {
         words: &["call", "hello.js", "hello"],
         input: "GET / HTTP/1.1\r\nHost: a\r\n\r\n",
@@ -69,17 +82,66 @@ const CASES: [Case; 14] = [
     },
     Case {
         words: &["call", "hello.js", "hello"],
-        input: "POST / HTTP/1.1\r\nHost: a\r\n\r\n",
+        input: "POST / HTTP/1.1\r\nHost: a\r\nContent-Length: 3\r\n\r\nabcGET / HTTP/1.1\r\nHost: a\r\n\r\n",
+        status: 0,
+        output: &[OK, OK],
+        notes: "",
+    },
+    Case {
+        words: &["call", "hello.js", "hello"],
+        input: "HEAD / HTTP/1.1\r\nHost: a\r\n\r\nGET / HTTP/1.1\r\nHost: a\r\n\r\n",
+        status: 0,
+        output: &[HEAD_ONLY, OK],
+        notes: "",
+    },
+    Case {
+        words: &["call", "hello.js", "hello"],
+        input: "GET / HTTP/1.0\r\n\r\nGET / HTTP/1.1\r\nHost: a\r\n\r\n",
+        status: 0,
+        output: &[LAST],
+        notes: "",
+    },
+    Case {
+        words: &["call", "hello.js", "hello"],
+        input: "GET / HTTP/1.0\r\nConnection: Keep-Alive\r\n\r\n",
+        status: 0,
+        output: &[OK],
+        notes: "",
+    },
+    Case {
+        words: &["call", "hello.js", "hello"],
+        input: "GET / HTTP/1.1\r\nHost: a\r\n\r\nGET / HTTP/1.1\r\n\r\n",
+        status: 0,
+        output: &[OK, BAD_REQUEST],
+        notes: "",
+    },
+    Case {
+        words: &["call", "hello.js", "hello"],
+        input: "TRACE / HTTP/1.1\r\nHost: a\r\n\r\n",
         status: 0,
         output: &[NOT_IMPLEMENTED],
         notes: "",
     },
     Case {
         words: &["call", "hello.js", "hello"],
-        input: "GET / HTTP/1.1\r\nHost: a\r\n\r\nGET / HTTP/1.1\r\nHost: \r\n\r\n",
+        input: "GET / HTTP/2.0\r\nHost: a\r\n\r\n",
         status: 0,
-        output: &[OK, NOT_IMPLEMENTED],
+        output: &[OTHER_VERSION],
         notes: "",
+    },
+    Case {
+        words: &["call", "hello.js", "hello"],
+        input: "POST / HTTP/1.1\r\nHost: a\r\nContent-Length: 1048577\r\n\r\n",
+        status: 0,
+        output: &[TOO_LARGE],
+        notes: "",
+    },
+    Case {
+        words: &["call", "hello.js", "hello"],
+        input: "POST / HTTP/1.1\r\nHost: a\r\nContent-Length: 3\r\n\r\nab",
+        status: 6,
+        output: &[],
+        notes: "cut\n",
     },
     Case {
         words: &["call", "hello.js", "hello"],
@@ -361,8 +423,12 @@ fn scripts(alloc: Global, first: &str, second: &str) -> Result<Conf, NoMemory>
         file: text(alloc, second)?,
     })?;
     Ok(Conf {
+        workers: 1,
+        host: text(alloc, "localhost")?,
+        port: 8000,
         fuel: 1,
         imports,
+        zones: List::new(alloc),
         locations: List::new(alloc),
     })
 }
@@ -391,42 +457,6 @@ fn all_files_are_read_before_the_scripts(rt: HostRuntime) -> Result<(), Fail> {
         let (found, file) = built(alloc, first, second)?;
         assert_eq!(rt; found, kind);
         assert_eq!(rt; file.as_str(), name);
-    }
-    Ok(())
-}
-
-fn location(alloc: Global, exact: bool, path: &str) -> Result<Location, NoMemory> {
-    Ok(Location {
-        exact,
-        path: text(alloc, path)?,
-        module: 0,
-        handler: text(alloc, "h")?,
-    })
-}
-
-#[test]
-fn the_exact_or_the_longest_location_is_chosen(rt: HostRuntime) -> Result<(), Fail> {
-    let alloc = rt.alloc();
-    let mut locations = List::new(alloc);
-    locations.push(location(alloc, true, "/a")?)?;
-    locations.push(location(alloc, false, "/b")?)?;
-    locations.push(location(alloc, false, "/a")?)?;
-    locations.push(location(alloc, false, "/ab")?)?;
-    let conf = Conf {
-        fuel: 1,
-        imports: List::new(alloc),
-        locations,
-    };
-    for (path, place) in [
-        ("/a", Some(0u32)),
-        ("/abc", Some(3)),
-        ("/ac", Some(2)),
-        ("/b", Some(1)),
-        ("/x", None),
-        ("/", None),
-    ] {
-        assert!(rt; conf.locations.len() < 64);
-        assert!(rt; conf.choose(&text(alloc, path)?) == place);
     }
     Ok(())
 }
