@@ -141,11 +141,11 @@ none_made xs ys zs os ws at spec new learns exists =
     let w = caller_there ws at spec exists in
     let z = at_triple Learns zs os ws at w.0 learns w.1 in
     let x = at_triple IsNewFrom xs ys zs at z.0 new z.3 in
-    (w.0, (w.1, ap (λ k. k.mine) z.2.rest ∙ ap (λ k. k.mine) x.2.3))
+    (w.0, w.1, ap (λ k. k.mine) z.2.rest ∙ ap (λ k. k.mine) x.2.3)
 
 -- its first call is its one entry
 pub one_made : (xs ys : List Caller) (at : ℕ) (op : DictOp) (reading : ℕ) (r : Result DictReply NoMemory) → KnownAt xs at (λ k. k.mine ≡ []) → Asks xs ys at op reading r → IfOk r (λ _. KnownAt ys at (λ k. length k.mine ≡ 1))
 one_made xs ys at op reading (Ok x) none a =
     let none_before : a.before.mine ≡ [] = subst (λ k. k.mine ≡ []) (only_one xs at a.before none.0 a.was none.1) none.2 in
-    (a.after, (ap (λ l. slice_get l at) a.changed ∙ put_there xs at a.before a.after a.was, ap length (a.related.commits.seen.2 ∙ ap (λ l. l ++ length (a.before.seen ++ a.related.commits.seen.0) ∷ []) none_before)))
+    (a.after, ap (λ l. slice_get l at) a.changed ∙ put_there xs at a.before a.after a.was, ap length (a.related.commits.seen.2 ∙ ap (λ l. l ++ length (a.before.seen ++ a.related.commits.seen.0) ∷ []) none_before))
 one_made xs ys at op reading (Err y) none a = tt
