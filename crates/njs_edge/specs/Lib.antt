@@ -1,7 +1,9 @@
 pub mod Causes
 pub mod Calls
+pub mod Begins
 pub mod Source
 pub mod Sink
 pub mod Files
 pub mod Clock
+pub mod Listener
 pub mod Known

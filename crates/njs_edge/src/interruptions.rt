@@ -8,7 +8,7 @@ use std::io::ErrorKind;
 /// How many interruptions within one call are a failure.
 const MAX_INTERRUPTIONS: u32 = 1000;
 
-/// The interruptions that are left to one call; the last of them is a failure.
+/// The interruptions and dropped connections that are left to one call; the last of them is a failure.
 #[derive(Drop)]
 pub struct Interruptions {
     left: u32,
@@ -30,6 +30,18 @@ impl Interruptions {
         ensures fewer { IsTrue result → self.new.left + 1 ≡ self.old.left }
     {
         if error.kind() == ErrorKind::Interrupted && self.left > 1 {
+            self.left -= 1;
+            return true;
+        }
+        false
+    }
+
+    /// Whether to try again after a connection that was dropped.
+    pub fn allow_dropped(&mut self) -> bool
+        ensures allowed { IsTrue result ↔ 1 < self.old.left }
+        ensures fewer { IsTrue result → self.new.left + 1 ≡ self.old.left }
+    {
+        if self.left > 1 {
             self.left -= 1;
             return true;
         }

@@ -1,13 +1,17 @@
 // The objects in memory call by call, and those over the system over devices that are interrupted.
-ghost use Rattle.std.specs.Prelude.{◌≡◌, ◌<◌, ◌≤◌, ◌^◌, IfOk};
+ghost use Rattle.std.specs.Prelude.{◌≡◌, ◌<◌, ◌≤◌, ◌^◌, IfOk, true};
 
 use crate::{
-    BytesIn, BytesOut, Clock, FileStop, Files, Flushed, ListClock, MapFiles, Put, RealClock,
-    RealFiles, Sink, Source, StdSink, StdSource, Taken,
+    Accepted, BytesDesk, BytesIn, BytesOut, Clock, Clocks, Desk, Ends, ErrorDesk, FileStop, Files,
+    Flushed, Gate, ListClock, ListClocks, ListConn, ListListener, Listener, MapFiles, OpenGate,
+    Put, RealClock, RealClocks, RealFiles, Sink, Source, StdSink, StdSource, Taken, TcpEnds,
 };
 use njs_text::{NoMemory, Text};
 use std::alloc::Global;
+use std::cell::Cell;
 use std::io::{ErrorKind, Read, Write};
+use std::net::{Ipv4Addr, Net, OpenListener, OpenStream, SocketAddr, TcpListener, TcpStream};
+use std::os::fd::{AsRawFd, RawFd};
 use std::test::Fail;
 use std::{env, fs, io, process};
 
@@ -181,4 +185,245 @@ fn the_clock_of_the_system_tells_the_time(rt: HostRuntime) {
     let reading = clock.now();
     // Past 2024, and below 2^53.
     assert!(rt; 1_704_067_200_000 < reading && reading < 9_007_199_254_740_992);
+}
+
+#[test]
+fn each_connection_has_a_clock_and_notes_of_its_own(rt: HostRuntime) {
+    let clocks = ListClocks::new(&[5, 6]);
+    let mut first = clocks.own();
+    let mut second = clocks.own();
+    assert_eq!(rt; (first.now(), first.now(), second.now()), (5, 6, 5));
+    let desk = BytesDesk::new(rt.alloc());
+    let mut notes = desk.own();
+    assert_eq!(rt; notes.write(LETTERS), Put::Bytes(LETTERS.len()));
+    assert_eq!(rt;
+        (notes.bytes(), desk.own().bytes()),
+        (LETTERS, b"".as_slice())
+    );
+    // Past 2024.
+    assert!(rt; 1_704_067_200_000 < RealClocks::new(&rt).own().now());
+    assert_eq!(rt; ErrorDesk::new(rt.stderr()).own().flush(), Flushed::Done);
+    OpenGate.before(0);
+    OpenGate.after(0);
+}
+
+fn conn(alloc: Global, bytes: &str, peer: &str) -> Result<ListConn, NoMemory> {
+    let source = BytesIn::new(
+        Vec::from_slice(alloc, bytes.as_bytes())?,
+        9,
+        Vec::new(alloc),
+    );
+    let sink = BytesOut::new(alloc, 9, Vec::new(alloc));
+    Ok(ListConn::new(source, sink, text(alloc, peer)?))
+}
+
+// What a listener answers, by the peer's address.
+fn next_peer(alloc: Global, listener: &mut ListListener) -> Accepted<Text>
+    requires { ⟦<ListListener as Listener>⟧.is_open listener.old ≡ true }
+    ensures { ⟦<ListListener as Listener>⟧.is_open listener.new ≡ true }
+{
+    match listener.accept(alloc) {
+        Accepted::Conn(conn) => Accepted::Conn(conn.parts().2),
+        Accepted::Closed => Accepted::Closed,
+        Accepted::Failed => Accepted::Failed,
+        Accepted::NoMemory => Accepted::NoMemory,
+    }
+}
+
+#[test]
+fn a_listener_in_memory_gives_its_connections_in_order(rt: HostRuntime) -> Result<(), Fail> {
+    let alloc = rt.alloc();
+    let mut conns = Vec::new(alloc);
+    for peer in ["a", "b"] {
+        conns.push(conn(alloc, "", peer)?)?;
+    }
+    let fails = Vec::from_slice(alloc, &[1, 4, 6])?;
+    let mut listener = ListListener::new(alloc, conns, fails);
+    let host = text(alloc, "localhost")?;
+    assert_eq!(rt; listener.open(&host, 80), Flushed::Failed);
+    assert_eq!(rt; listener.open(&host, 80), Flushed::Done);
+    let (a, b) = (text(alloc, "a")?, text(alloc, "b")?);
+    assert_eq!(rt; next_peer(alloc, &mut listener), Accepted::Conn(a));
+    assert_eq!(rt; next_peer(alloc, &mut listener), Accepted::Failed);
+    assert_eq!(rt; next_peer(alloc, &mut listener), Accepted::Conn(b));
+    assert_eq!(rt; next_peer(alloc, &mut listener), Accepted::Failed);
+    assert_eq!(rt; next_peer(alloc, &mut listener), Accepted::Closed);
+    assert_eq!(rt; next_peer(alloc, &mut listener), Accepted::Closed);
+    Ok(())
+}
+
+#[test]
+fn a_connection_in_memory_is_its_ends_and_address(rt: HostRuntime) -> Result<(), Fail> {
+    let alloc = rt.alloc();
+    let (mut source, mut sink, peer) = conn(alloc, "ping", "10.0.0.1")?.parts();
+    let mut room = [0u8; 9];
+    assert_eq!(rt; source.read(&mut room), Taken::Bytes(4));
+    assert!(rt; room.starts_with(b"ping"));
+    assert_eq!(rt; sink.write(b"pong"), Put::Bytes(4));
+    assert_eq!(rt;
+        (sink.bytes(), peer.as_str()),
+        (b"pong".as_slice(), "10.0.0.1")
+    );
+    Ok(())
+}
+
+// A net whose listener is interrupted so often, then gives so many connections that have one end alone, and then
+// connections with both ends.
+#[derive(Drop)]
+struct OddNet {
+    interruptions: u32,
+    halves: u32,
+}
+
+#[derive(Drop)]
+struct OddListener {
+    interruptions: Cell<u32>,
+    halves: Cell<u32>,
+}
+
+#[derive(Drop)]
+struct OddStream {
+    is_half: bool,
+}
+
+impl Net for OddNet {
+    type Stream = OddStream;
+
+    type Listener = OddListener;
+
+    fn bind(&self, _addr: SocketAddr) -> io::Result<OddListener> {
+        Ok(OddListener {
+            interruptions: Cell::new(self.interruptions),
+            halves: Cell::new(self.halves),
+        })
+    }
+
+    fn connect(&self, _addr: SocketAddr) -> io::Result<OddStream> {
+        Err(io::Error::from(ErrorKind::Unsupported))
+    }
+}
+
+// Whether a count was above 0, which is one smaller then.
+fn count_down(count: &Cell<u32>) -> bool {
+    let was = count.get();
+    count.set(was.saturating_sub(1));
+    was > 0
+}
+
+impl OpenListener for OddListener {
+    type Stream = OddStream;
+
+    fn accept(&self) -> io::Result<(OddStream, SocketAddr)> {
+        if count_down(&self.interruptions) {
+            return Err(io::Error::from(ErrorKind::Interrupted));
+        }
+        let is_half = count_down(&self.halves);
+        let peer = SocketAddr::from((Ipv4Addr::LOCALHOST, 80));
+        Ok((OddStream { is_half }, peer))
+    }
+}
+
+impl AsRawFd for OddListener {
+    fn as_raw_fd(&self) -> RawFd {
+        -1
+    }
+}
+
+impl OpenStream for OddStream {
+    fn try_clone(&self) -> io::Result<OddStream> {
+        if self.is_half {
+            return Err(io::Error::from(ErrorKind::Unsupported));
+        }
+        Ok(OddStream { is_half: false })
+    }
+}
+
+impl AsRawFd for OddStream {
+    fn as_raw_fd(&self) -> RawFd {
+        -1
+    }
+}
+
+impl Read for OddStream {
+    fn read(&mut self, _room: &mut [u8]) -> io::Result<usize> {
+        Ok(0)
+    }
+}
+
+impl Write for OddStream {
+    fn write(&mut self, piece: &[u8]) -> io::Result<usize> {
+        Ok(piece.len())
+    }
+
+    fn flush(&mut self) -> io::Result<()> {
+        Ok(())
+    }
+}
+
+#[test]
+fn a_thousand_dropped_connections_are_a_failure(rt: HostRuntime) -> Result<(), Fail> {
+    let alloc = rt.alloc();
+    let host = text(alloc, "127.0.0.1")?;
+    let cases = [
+        (0, 0, true),
+        (999, 0, true),
+        (1000, 0, false),
+        (0, 999, true),
+        (0, 1000, false),
+        (500, 499, true),
+        (500, 500, false),
+    ];
+    for (interruptions, halves, is_accepted) in cases {
+        let net = OddNet {
+            interruptions,
+            halves,
+        };
+        let mut listener = TcpEnds::new(&net);
+        assert_eq!(rt; listener.open(&host, 80), Flushed::Done);
+        match listener.accept(alloc) {
+            Accepted::Conn(conn) => {
+                let (mut source, mut sink, peer) = conn.parts();
+                assert_eq!(rt;
+                    (source.read(&mut [0u8; 5]), sink.write(b"abc")),
+                    (Taken::End, Put::Bytes(3))
+                );
+                assert_eq!(rt; (is_accepted, peer.as_str()), (true, "127.0.0.1"));
+            }
+            Accepted::Failed => assert!(rt; !is_accepted),
+            Accepted::Closed | Accepted::NoMemory => assert!(rt; false),
+        }
+    }
+    Ok(())
+}
+
+#[test]
+fn a_connection_of_the_system_is_served(rt: HostRuntime) -> Result<(), Fail> {
+    let alloc = rt.alloc();
+    let free = TcpListener::bind(&rt, (Ipv4Addr::LOCALHOST, 0))?;
+    let port = free.local_addr()?.port();
+    drop(free);
+    let host = text(alloc, "127.0.0.1")?;
+    let mut listener = TcpEnds::new(&rt);
+    assert_eq!(rt; listener.open(&host, port), Flushed::Done);
+    assert_eq!(rt; TcpEnds::new(&rt).open(&host, port), Flushed::Failed);
+    let mut client = TcpStream::connect(&rt, (Ipv4Addr::LOCALHOST, port))?;
+    client.write_all(b"ping")?;
+    let Accepted::Conn(conn) = listener.accept(alloc) else {
+        assert!(rt; false);
+        return Ok(());
+    };
+    let (mut source, mut sink, peer) = conn.parts();
+    assert_eq!(rt; peer.as_str(), "127.0.0.1");
+    let mut room = [0u8; 9];
+    assert_eq!(rt; source.read(&mut room), Taken::Bytes(4));
+    assert!(rt; room.starts_with(b"ping"));
+    assert_eq!(rt;
+        (sink.write(b"pong"), sink.flush()),
+        (Put::Bytes(4), Flushed::Done)
+    );
+    drop(source);
+    drop(sink);
+    let answer = io::read_to_string(alloc, client)?;
+    assert_eq!(rt; answer.as_str(), "pong");
+    Ok(())
 }
