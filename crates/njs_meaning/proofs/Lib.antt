@@ -1,3 +1,4 @@
 mod Ends
 mod Digits
 pub mod Safe
+mod Examples

@@ -1,5 +1,5 @@
 -- Conversions of values (ECMA-262 5.1 §9), which may call functions of the script. `call` says what a call means.
-use Rattle.std.specs.Prelude.{ℕ, ℤ, pos, List, [], Bool, true, false, Option, Some, None, if◌then◌else◌, codes, slice_get}
+use Rattle.std.specs.Prelude.{ℕ, ℤ, List, [], Bool, true, false, if◌then◌else◌, codes, slice_get}
 use Rattle.std.specs.Option.{option_map_or}
 use Rattle.njs_value.specs.declared.Cause.TheVariants.{NoPrimitive, NotNumber}
 use Rattle.njs_meaning.specs.declared.level.Hint.{Hint}

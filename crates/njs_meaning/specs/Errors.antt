@@ -1,17 +1,14 @@
 -- The prototypes of the first heap, and the errors that are thrown (ECMA-262 5.1 §15.11).
-use Rattle.std.specs.Prelude.{ℕ, ◌+◌, List, [], ◌∷◌, ◌++◌, length, take, Option, Some, None, true, false, codes}
-use Rattle.njs_value.specs.Object.{Object}
+use Rattle.std.specs.Prelude.{ℕ, List, [], ◌∷◌, ◌++◌, length, take, Option, Some, None, true, false, codes}
 use Rattle.njs_value.specs.declared.Cause.{Cause}
 use Rattle.njs_value.specs.declared.Cause.TheVariants as cause
-use Rattle.njs_value.specs.declared.Class.{Class}
 use Rattle.njs_value.specs.declared.Class.TheVariants as class
 use Rattle.njs_value.specs.declared.Flags.{Flags}
 use Rattle.njs_value.specs.declared.TextId.{TextId}
-use Rattle.njs_props.specs.declared.map.Property.{Property}
 use Rattle.njs_meaning.specs.declared.prototypes.Prototype.{Prototype}
 use Rattle.njs_meaning.specs.declared.prototypes.Prototype.TheVariants as prototype
 use Rattle.njs_meaning.specs.Primitives.{Characters}
-use Rattle.njs_meaning.specs.Values.{PlainValue, Simple, ObjectAt}
+use Rattle.njs_meaning.specs.Values.{Simple, ObjectAt}
 use Rattle.njs_meaning.specs.PlainHeap.{PlainObject, Plain}
 use Rattle.njs_meaning.specs.State.{State, Outcome, Throws}
 

@@ -10,3 +10,12 @@ pub mod PlainHeap
 pub mod State
 pub mod Errors
 pub mod Conversions
+pub mod Parts
+pub mod Running
+pub mod Scopes
+pub mod Members
+pub mod References
+pub mod Operations
+pub mod Completions
+pub mod Functions
+pub mod Meaning

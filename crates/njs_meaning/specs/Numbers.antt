@@ -1,5 +1,5 @@
 -- What values stand for as truth values, numbers and texts (ECMA-262 5.1 §9), for values that are no objects.
-use Rattle.std.specs.Prelude.{ℕ, ◌+◌, ◌-◌, ◌*◌, ◌^◌, ◌/◌, ◌%◌, ◌==◌, List, [], ◌∷◌, Bool, true, false, not, ◌&&◌, ◌||◌, nat_lt, nat_le, if◌then◌else◌, Option, Some, None, ℤ, pos, negsuc, ◌-ℤ◌, neg_ℤ, unsigned_abs, length, reverse, drop, codes}
+use Rattle.std.specs.Prelude.{ℕ, ◌==◌, List, [], ◌∷◌, Bool, false, ◌&&◌, ◌||◌, nat_lt, nat_le, if◌then◌else◌, Option, Some, None, ℤ, pos, ◌-ℤ◌, neg_ℤ, unsigned_abs, length, reverse, drop, codes}
 use Rattle.std.specs.Char.{is_digit}
 use Rattle.std.specs.Fmt.{signed_decimal}
 use Rattle.std.specs.Int.{int_rem_euclid}

@@ -1,5 +1,5 @@
 -- Put, Define and Delete (ECMA-262 5.1 §8.12.5, §8.12.7, §8.12.9) of an object among others, over any kind of values.
-use Rattle.std.specs.Prelude.{ℕ, List, [], ◌∷◌, ◌++◌, Bool, true, false, Option, Some, None, if◌then◌else◌, is_some, not, slice_get, slice_set}
+use Rattle.std.specs.Prelude.{ℕ, List, [], ◌∷◌, ◌++◌, Bool, true, false, Option, if◌then◌else◌, is_some, not, slice_get, slice_set}
 use Rattle.std.specs.Option.{option_map, option_map_or, option_and_then}
 use Rattle.njs_value.specs.Object.{Object}
 use Rattle.njs_value.specs.declared.Class.{Class}

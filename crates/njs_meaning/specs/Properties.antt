@@ -1,5 +1,5 @@
 -- What is done with the properties of one object (ECMA-262 5.1 §8.12), where it is no array: over any kind of values.
-use Rattle.std.specs.Prelude.{ℕ, List, Bool, true, false, ◌&&◌, ◌||◌, not, Option, Some, None, if◌then◌else◌, is_some, unwrap_or}
+use Rattle.std.specs.Prelude.{ℕ, List, Bool, true, false, ◌&&◌, ◌||◌, not, Option, Some, None, if◌then◌else◌, unwrap_or}
 use Rattle.std.specs.Option.{option_map, option_map_or}
 use Rattle.njs_value.specs.declared.Flags.{Flags}
 use Rattle.njs_value.specs.declared.Cause.{Cause}

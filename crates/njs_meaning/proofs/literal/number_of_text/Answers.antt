@@ -1,9 +1,9 @@
-use Rattle.std.proofs.Common.{◌≡◌, reverse, ap, sym, subst, ◌∙◌}
+use Rattle.std.proofs.Common.{reverse, ap, sym, subst, ◌∙◌}
 use Rattle.std.specs.Prelude.{IfSome}
 use Rattle.std.proofs.lemmas.Str.{chars_from_encodes}
 use Rattle.std.specs.Str.{chars}
 use Rattle.njs_value.specs.Number.{IsSafe}
-use Rattle.njs_meaning.specs.Numbers.{without_front, literal, number_of_text}
+use Rattle.njs_meaning.specs.Numbers.{without_front, literal}
 use Rattle.njs_meaning.proofs.Safe.{literal_safe}
 use Rattle.njs_meaning.proofs.literal.number_of_text.Goals as goal
 
