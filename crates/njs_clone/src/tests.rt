@@ -402,6 +402,7 @@ fn names_keep_the_order_of_creation(rt: HostRuntime) -> Result<(), Fail> {
 fn level<L: Ledger>(rt: &impl Abort, alloc: Global, steps: &mut Steps<L>) -> Result<Shared, Fail> {
     let empty = Shared::empty(alloc);
     let mut machine = Machine::clone_of(alloc, &empty);
+    machine.first_scope(alloc, 2, steps)?;
     for next in &[
         Act::New(Class::Object, None),
         Act::Put(0, "a", ONE, DONE),
@@ -409,7 +410,6 @@ fn level<L: Ledger>(rt: &impl Abort, alloc: Global, steps: &mut Steps<L>) -> Res
     ] {
         perform(rt, alloc, &mut machine, next, steps)?;
     }
-    machine.first_scope(alloc, 2, steps)?;
     Ok(machine.freeze(alloc)?)
 }
 

@@ -1,3 +1,4 @@
+mod Answering
 mod Lookups
 mod Outcomes
 mod Messages
@@ -5,3 +6,5 @@ mod Grown
 mod Made
 mod Thrown
 mod ShownTexts
+mod FirstSteps
+mod FirstEnds

@@ -7,7 +7,7 @@ use Rattle.njs_value.specs.declared.Value.TheVariants.{Undefined, Null, Bool as 
 use Rattle.njs_clone.specs.Content.{content}
 use Rattle.njs_meaning.specs.Primitives.{Primitive}
 use Rattle.njs_meaning.specs.Values.{PlainValue, Simple, ObjectAt}
-use Rattle.njs_meaning.specs.State.{State, Outcome, Gives, Throws, Spent, Call, and_then}
+use Rattle.njs_meaning.specs.State.{State, Outcome, Gives, Throws, Spent, Asks, Call, and_then}
 use Rattle.njs_meaning.specs.Conversions.{primitive_or}
 use Rattle.njs_convert.specs.declared.stop.Stop.{Stop}
 use Rattle.njs_convert.specs.declared.stop.Stop.TheVariants.{Throw, Fuel, NoMemory}
@@ -20,6 +20,7 @@ pub then_tells : {V W A B : Type 0} (after after' : State → Type 0) (texts tex
 then_tells after after' texts texts' shows shows' v r (Gives a s) go t rest = rest a s t.0 t.1
 then_tells after after' texts texts' shows shows' v r (Throws w s) go t rest = absurd t
 then_tells after after' texts texts' shows shows' v r (Spent s) go t rest = absurd t
+then_tells after after' texts texts' shows shows' v r (Asks zone op s) go t rest = absurd t
 
 -- after an end
 pub then_ends : {V W A B : Type 0} (after : State → Type 0) (texts : List (List ℕ)) (shows : V → A → Type 0) (shows' : W → B → Type 0) (stop : Stop) (o : Outcome A) (go : A → State → Outcome B)
@@ -27,9 +28,11 @@ pub then_ends : {V W A B : Type 0} (after : State → Type 0) (texts : List (Lis
 then_ends after texts shows shows' (Throw v) (Gives a s) go t = absurd t
 then_ends after texts shows shows' (Throw v) (Throws w s) go t = t
 then_ends after texts shows shows' (Throw v) (Spent s) go t = absurd t
+then_ends after texts shows shows' (Throw v) (Asks zone op s) go t = absurd t
 then_ends after texts shows shows' Fuel (Gives a s) go t = absurd t
 then_ends after texts shows shows' Fuel (Throws w s) go t = absurd t
 then_ends after texts shows shows' Fuel (Spent s) go t = t
+then_ends after texts shows shows' Fuel (Asks zone op s) go t = absurd t
 then_ends after texts shows shows' NoMemory o go t = tt
 
 -- a value that is no object wins

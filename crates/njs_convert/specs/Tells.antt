@@ -1,5 +1,5 @@
 -- How an answer tells the outcome of the definition, and what every call leaves.
-use Rattle.std.specs.Prelude.{◌≡◌, ◌≤◌, ◌<◌, true, false, Some, Option, ℕ, ℤ, List, [], ◌∷◌, ◌++◌, length, map, slice_index_or, slice_get, codes, Result, Ok, Err}
+use Rattle.std.specs.Prelude.{◌≡◌, ◌≤◌, ◌<◌, ◌+◌, true, false, Some, Option, ℕ, ℤ, List, [], ◌∷◌, ◌++◌, length, map, slice_index_or, slice_get, codes, Result, Ok, Err}
 use Rattle.std.specs.List.{AllByRecursion}
 use Rattle.std.specs.Option.{ForSome}
 use Rattle.njs_value.specs.declared.Cause.{Cause}
@@ -132,3 +132,14 @@ ThrowsError cause old new (Throw (Obj o)) = MadeError cause old new o.0
 ThrowsError cause old new (Throw v) = ⊥
 ThrowsError cause old new Fuel = ⊥
 ThrowsError cause old new NoMemory = Unit {0}
+
+-- the steps of an error: one for the object, and at most one more as its message is defined
+abbrev pub CountsError : ℕ → ℕ → Stop → Type 0
+CountsError old new (Throw v) = (old + 1 ≤ new) × (new ≤ old + 2)
+CountsError old new Fuel = ⊥
+CountsError old new NoMemory = (old ≤ new) × (new ≤ old + 2)
+
+-- a conversion that gives a value counts what its calls add; one that gives none may have made an error beside
+abbrev pub Counts : {V : Type 0} → (ℕ → Type 0) → ℕ → Result V Stop → Type 0
+Counts adds new (Ok v) = adds new
+Counts adds new (Err stop) = (called : ℕ) × adds called × (called ≤ new) × (new ≤ called + 2)

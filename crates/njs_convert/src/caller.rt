@@ -42,6 +42,16 @@ pub trait Caller<L: Ledger> {
     /// The references that it works over, by their names.
     ghost lent: { Self → List ℕ };
 
+    /// The steps that its calls add: how those counted before and after go with the caller before and after. A charge and a
+    /// note add none.
+    ghost adds: { Self → ℕ → Self → ℕ → Type 0 };
+
+    /// The caller before and after a charge.
+    ghost charged: { Self → Self → Type 0 };
+
+    /// The caller before and after a note.
+    ghost noted: { Self → Self → Type 0 };
+
     /// Calls a value with `this` and arguments.
     fn call(
         &mut self,
@@ -64,13 +74,16 @@ pub trait Caller<L: Ledger> {
         ensures fits { fits self.new machine.new }
         ensures same { lent self.new ≡ lent self.old }
         ensures grows { Grows machine.old machine.new }
-        ensures value { FitsAnswer (FitsValue (sizes machine.new)) (sizes machine.new) result };
+        ensures value { FitsAnswer (FitsValue (sizes machine.new)) (sizes machine.new) result }
+        ensures steps { adds self.old steps.old self.new steps.new };
 
     /// Takes ticks. `Fuel` comes exactly where fewer are left, and then none is taken.
     fn charge(&mut self, ticks: u64) -> Result<(), Stop>
         ensures ok { OnOk result ((ticks ≤ ticks_of self.old) × (ticks_of self.new ≡ ticks_of self.old - ticks)) }
         ensures err { OnErr result ((result ≡ Err Stop.Fuel) × (ticks_of self.old < ticks) × (ticks_of self.new ≡ ticks_of self.old)) }
         ensures log { log self.new ≡ log self.old }
+        ensures charged { charged self.old self.new }
+        ensures steps { (n : ℕ) → adds self.old n self.new n }
         ensures stands { (h : Heap) (s : State) → stands self.old h s → stands self.new h (record s { ticks = ticks_of self.new }) }
         ensures kept { (m : Call) → follows self.old m → follows self.new m }
         ensures may { may_call self.old → may_call self.new }
@@ -82,6 +95,8 @@ pub trait Caller<L: Ledger> {
         ensures ok { OnOk result (log self.new ≡ log self.old ++ record { level = level; text = text.now } ∷ []) }
         ensures err { OnErr result (result ≡ Err Stop.NoMemory) }
         ensures ticks { ticks_of self.new ≡ ticks_of self.old }
+        ensures noted { noted self.old self.new }
+        ensures steps { (n : ℕ) → adds self.old n self.new n }
         ensures stands { OnOk result ((h : Heap) (s : State) → stands self.old h s → stands self.new h (record s { log = log self.new })) }
         ensures kept { (m : Call) → follows self.old m → follows self.new m }
         ensures may { may_call self.old → may_call self.new }
@@ -97,6 +112,12 @@ pub trait Caller<L: Ledger> {
     ghost stands_on: { (c : Self) (h k : Heap) (s : State) → stands c h s → Extends h k → stands c k (record s { objects = plain_objects k }) };
 
     ghost fits_on: { (c : Self) (h k : Heap) → fits c h → Extends h k → fits c k };
+
+    ghost adds_none: { (c : Self) (n : ℕ) → adds c n c n };
+
+    ghost adds_on: { (c d e : Self) (n k m : ℕ) → adds c n d k → adds d k e m → adds c n e m };
+
+    ghost adds_up: { (c d : Self) (n k : ℕ) → adds c n d k → n ≤ k };
 }
 
 /// A caller that works over a host, which it lends: so a built-in that a script calls back reaches the same one.
@@ -107,12 +128,24 @@ pub trait HostCaller<H, L: Ledger>: Caller<L> {
     /// The caller with another host.
     ghost with_host: { Self → H → Self };
 
+    /// Hosts with the same zones: what must stay, where the host is written, for the machines that fit.
+    ghost same_zones: { H → H → Type 0 };
+
+    /// What a note does to the host.
+    ghost notes: { H → H → Type 0 };
+
     /// Lends the host.
     fn host(&mut self) -> &mut H
         ensures* lends { sem 𝓛 (Lends Self.row H.row self.entry result (with_host self.old)) }
         ensures value { result.now ≡ host_of self.old };
 
     ghost host_with: { (c : Self) (h : H) → host_of (with_host c h) ≡ h };
+
+    ghost with_own: { (c : Self) → with_host c (host_of c) ≡ c };
+
+    ghost host_charged: { (c d : Self) → Self.charged c d → host_of d ≡ host_of c };
+
+    ghost host_noted: { (c d : Self) → Self.noted c d → notes (host_of c) (host_of d) };
 
     ghost ticks_with: { (c : Self) (h : H) → Self.ticks_of (with_host c h) ≡ Self.ticks_of c };
 
@@ -121,4 +154,10 @@ pub trait HostCaller<H, L: Ledger>: Caller<L> {
     ghost follows_with: { (c : Self) (h : H) (m : Call) → Self.follows c m → Self.follows (with_host c h) m };
 
     ghost may_call_with: { (c : Self) (h : H) → Self.may_call c → Self.may_call (with_host c h) };
+
+    ghost fits_with: { (c : Self) (h : H) (k : Heap) → same_zones (host_of c) h → Self.fits c k → Self.fits (with_host c h) k };
+
+    ghost stands_with: { (c : Self) (h : H) (k : Heap) (s : State) → Self.stands c k s → Self.stands (with_host c h) k (record s { log = Self.log (with_host c h) }) };
+
+    ghost adds_with: { (c : Self) (h : H) (n : ℕ) → Self.adds c n (with_host c h) n };
 }

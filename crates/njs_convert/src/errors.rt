@@ -1,9 +1,9 @@
 // Errors that are thrown (ECMA-262 5.1 §15.11).
-ghost use Rattle.std.specs.Prelude.{◌≡◌, ◌≤◌, ◌<◌, ◌++◌, [], List, ℕ, length, take, codes, IfOk, OnOk, OnErr};
+ghost use Rattle.std.specs.Prelude.{◌≡◌, ◌≤◌, ◌<◌, ◌+◌, ◌++◌, [], List, ℕ, length, take, codes, IfOk, OnOk, OnErr};
 ghost use Rattle.njs_shared.specs.Heap.{sizes};
 ghost use Rattle.njs_meaning.specs.Objects.{with_props};
 ghost use Rattle.njs_meaning.specs.Errors.{first_count, prototype_of, name_of, message_of, named_message};
-ghost use Rattle.njs_convert.specs.Tells.{text_at, hidden_desc, message_props, IsFresh, FitsCause, Extends, MadeError, ThrowsError};
+ghost use Rattle.njs_convert.specs.Tells.{text_at, hidden_desc, message_props, IsFresh, FitsCause, Extends, MadeError, ThrowsError, CountsError};
 
 use crate::Stop;
 use njs_clone::Machine;
@@ -140,7 +140,7 @@ fn message_of(alloc: Global, machine: &Machine<'_>, cause: Cause) -> Result<Text
 }
 
 // The definition of a property that can be written and configured, and isn't enumerable.
-fn hidden(value: Value) -> Desc
+pub fn hidden(value: Value) -> Desc
     ensures { result ≡ hidden_desc value }
 {
     Desc {
@@ -164,6 +164,7 @@ fn put_message<L: Ledger>(
     requires message { message.0 < length machine.old.texts }
     ensures ok { OnOk result (machine.new ≡ record machine.old { objects = with_props machine.old.objects object.0 (message_props (Value.Str message)) }) }
     ensures err { OnErr result (machine.new ≡ machine.old) }
+    ensures cells { (steps.old ≤ steps.new) × (steps.new ≤ steps.old + 1) }
 {
     let desc = hidden(Value::Str(message));
     match machine.define(alloc, object, &message_name(), desc, steps) {
@@ -189,6 +190,8 @@ fn error_object<L: Ledger>(
     requires cause { FitsCause (sizes machine.old) cause }
     ensures made { IfOk result (λ object. MadeError cause machine.old machine.new object.0) }
     ensures extends { Extends machine.old machine.new }
+    ensures cell { OnOk result (steps.old + 1 ≤ steps.new) }
+    ensures cells { (steps.old ≤ steps.new) × (steps.new ≤ steps.old + 2) }
 {
     let _sizes = machine.sizes();
     let message = message_of(alloc, machine, cause)?;
@@ -211,6 +214,7 @@ pub fn throw<L: Ledger>(
     requires cause { FitsCause (sizes machine.old) cause }
     ensures throws { ThrowsError cause machine.old machine.new result }
     ensures extends { Extends machine.old machine.new }
+    ensures steps { CountsError steps.old steps.new result }
 {
     match error_object(alloc, machine, cause, steps) {
         Ok(object) => Stop::Throw(Value::Obj(object)),

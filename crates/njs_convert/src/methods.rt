@@ -98,6 +98,7 @@ pub fn tried<C: Caller<L>, L: Ledger>(
     ensures same { C.lent caller.new ≡ C.lent caller.old }
     ensures grows { Grows machine.old machine.new }
     ensures value { FitsAnswer (FitsValue (sizes machine.new)) (sizes machine.new) result }
+    ensures steps { C.adds caller.old steps.old caller.new steps.new }
 {
     let method = machine.get(object, name);
     if !is_callable(machine, method) {

@@ -7,7 +7,7 @@ ghost use Rattle.njs_clone.specs.Content.{content};
 ghost use Rattle.njs_meaning.specs.State.{Call};
 ghost use Rattle.njs_meaning.specs.Errors.{first_count};
 ghost use Rattle.njs_meaning.specs.Conversions.{to_number, to_int32, to_uint32};
-ghost use Rattle.njs_convert.specs.Tells.{Means, ShowsNumber, Grows, FitsAnswer, FitsSimple, HasNumber, AnyNumber};
+ghost use Rattle.njs_convert.specs.Tells.{Means, Counts, ShowsNumber, Grows, FitsAnswer, FitsSimple, HasNumber, AnyNumber};
 
 use crate::{Caller, Hint, Stop, throw, to_primitive};
 use njs_clone::Machine;
@@ -53,6 +53,7 @@ pub fn to_number<C: Caller<L>, L: Ledger>(
     ensures same { C.lent caller.new ≡ C.lent caller.old }
     ensures grows { Grows machine.old machine.new }
     ensures value { FitsAnswer IsSafe (sizes machine.new) result }
+    ensures steps { Counts (C.adds caller.old steps.old caller.new) steps.new result }
 {
     let primitive = match to_primitive(alloc, caller, machine, value, Hint::Number, steps) {
         Ok(primitive) => primitive,
@@ -83,6 +84,7 @@ pub fn to_int32<C: Caller<L>, L: Ledger>(
     ensures same { C.lent caller.new ≡ C.lent caller.old }
     ensures grows { Grows machine.old machine.new }
     ensures value { FitsAnswer AnyNumber (sizes machine.new) result }
+    ensures steps { Counts (C.adds caller.old steps.old caller.new) steps.new result }
 {
     match to_number(alloc, caller, machine, value, steps) {
         Ok(number) => Ok(signed_32(number)),
@@ -109,6 +111,7 @@ pub fn to_uint32<C: Caller<L>, L: Ledger>(
     ensures same { C.lent caller.new ≡ C.lent caller.old }
     ensures grows { Grows machine.old machine.new }
     ensures value { FitsAnswer AnyNumber (sizes machine.new) result }
+    ensures steps { Counts (C.adds caller.old steps.old caller.new) steps.new result }
 {
     match to_number(alloc, caller, machine, value, steps) {
         Ok(number) => Ok(unsigned_32(number)),

@@ -7,7 +7,7 @@ ghost use Rattle.njs_clone.specs.Content.{content};
 ghost use Rattle.njs_meaning.specs.State.{Call};
 ghost use Rattle.njs_meaning.specs.Errors.{first_count};
 ghost use Rattle.njs_meaning.specs.Conversions.{by_second, by_methods, to_primitive};
-ghost use Rattle.njs_convert.specs.Tells.{Means, ShowsPrimitive, Grows, FitsAnswer, FitsSimple};
+ghost use Rattle.njs_convert.specs.Tells.{Means, Counts, ShowsPrimitive, Grows, FitsAnswer, FitsSimple};
 
 use crate::methods::{first_method, is_object, second_method, tried};
 use crate::{Caller, Hint, Stop, throw};
@@ -37,6 +37,7 @@ fn by_second<C: Caller<L>, L: Ledger>(
     ensures same { C.lent caller.new ≡ C.lent caller.old }
     ensures grows { Grows machine.old machine.new }
     ensures value { FitsAnswer (FitsSimple (sizes machine.new)) (sizes machine.new) result }
+    ensures steps { Counts (C.adds caller.old steps.old caller.new) steps.new result }
 {
     let given = match tried(alloc, caller, machine, object, &second_method(hint), steps) {
         Ok(given) => given,
@@ -68,6 +69,7 @@ fn by_methods<C: Caller<L>, L: Ledger>(
     ensures same { C.lent caller.new ≡ C.lent caller.old }
     ensures grows { Grows machine.old machine.new }
     ensures value { FitsAnswer (FitsSimple (sizes machine.new)) (sizes machine.new) result }
+    ensures steps { Counts (C.adds caller.old steps.old caller.new) steps.new result }
 {
     let given = match tried(alloc, caller, machine, object, &first_method(hint), steps) {
         Ok(given) => given,
@@ -100,6 +102,7 @@ pub fn to_primitive<C: Caller<L>, L: Ledger>(
     ensures same { C.lent caller.new ≡ C.lent caller.old }
     ensures grows { Grows machine.old machine.new }
     ensures value { FitsAnswer (FitsSimple (sizes machine.new)) (sizes machine.new) result }
+    ensures steps { Counts (C.adds caller.old steps.old caller.new) steps.new result }
 {
     match value {
         Value::Obj(object) => by_methods(alloc, caller, machine, object, hint, steps),

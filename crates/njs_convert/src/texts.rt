@@ -6,7 +6,7 @@ ghost use Rattle.njs_clone.specs.Content.{content};
 ghost use Rattle.njs_meaning.specs.State.{Call};
 ghost use Rattle.njs_meaning.specs.Errors.{first_count};
 ghost use Rattle.njs_meaning.specs.Conversions.{to_text};
-ghost use Rattle.njs_convert.specs.Tells.{Means, ShowsText, Grows, Extends, FitsAnswer, FitsSimple, FitsText};
+ghost use Rattle.njs_convert.specs.Tells.{Means, Counts, ShowsText, Grows, Extends, FitsAnswer, FitsSimple, FitsText};
 ghost use Rattle.njs_convert.specs.Texts.{IsShown, shown_text, HasText};
 
 use crate::{Caller, Hint, Stop, to_primitive};
@@ -78,6 +78,7 @@ pub fn to_text<C: Caller<L>, L: Ledger>(
     ensures same { C.lent caller.new ≡ C.lent caller.old }
     ensures grows { Grows machine.old machine.new }
     ensures value { FitsAnswer (FitsText (sizes machine.new)) (sizes machine.new) result }
+    ensures steps { Counts (C.adds caller.old steps.old caller.new) steps.new result }
 {
     let primitive = match to_primitive(alloc, caller, machine, value, Hint::Text, steps) {
         Ok(primitive) => primitive,

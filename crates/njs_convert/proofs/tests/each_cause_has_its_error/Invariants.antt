@@ -1,4 +1,4 @@
-use Rattle.njs_convert.proofs.tests.a_throw_goes_through.Given as goal
+use Rattle.njs_convert.proofs.tests.each_cause_has_its_error.Given as goal
 
 -- the counter's own ledger
 abbrev pub ghosts-thrown : goal.ghosts-thrown
