@@ -1,0 +1,6 @@
+pub mod Readers
+pub mod Expressions
+pub mod Statements
+pub mod Descent
+pub mod Reads
+pub mod Laws
