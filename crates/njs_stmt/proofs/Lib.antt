@@ -1,0 +1,4 @@
+mod Cutting
+mod Items
+mod Places
+mod Symbols
