@@ -4,7 +4,7 @@ use Rattle.std.proofs.lemmas.Bool.Decides.{nat_tests}
 use Rattle.std.specs.List.{list_all}
 use lib.Utf8.{encode, encodes, next}
 use Rattle.njs_tree.specs.Characters.{is_letter, is_part, begins}
-use Rattle.njs_tree.specs.Names.{is_word, is_reserved, is_name, is_bindable}
+use Rattle.njs_tree.specs.Names.{is_word, is_reserved, is_name}
 
 letter_low : (c : ℕ) → 128 ≤ c → is_letter c ≡ false
 letter_low c h = grind (arith, nat_tests)
@@ -80,17 +80,3 @@ word_test f text =
 
 pub name_same : (text : List ℕ) → is_name (encodes text) ≡ is_name text
 name_same text = word_test (λ t. not (is_reserved t)) text
-
-and_assoc : (a b c : Bool) → ((a && b) && c) ≡ (a && (b && c))
-and_assoc true b c = refl
-and_assoc false b c = refl
-
-free : List ℕ → Bool
-free text = not (is_reserved text) && not (bytes_eq text (codes "eval") || bytes_eq text (codes "arguments"))
-
-word_first : (text : List ℕ) → is_bindable text ≡ (is_word text && free text)
-unfolding is_bindable free
-word_first text = and_assoc (is_word text) (not (is_reserved text)) (not (bytes_eq text (codes "eval") || bytes_eq text (codes "arguments")))
-
-pub bindable_same : (text : List ℕ) → is_bindable (encodes text) ≡ is_bindable text
-bindable_same text = word_first (encodes text) ∙ word_test free text ∙ sym (word_first text)

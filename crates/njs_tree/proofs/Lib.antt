@@ -1,4 +1,2 @@
 pub mod Ascii
-pub mod Steps
-pub mod Whole
 mod Examples

@@ -17,10 +17,6 @@ is_letter c = nat_le 97 c && nat_le c 122 || nat_le 65 c && nat_le c 90 || c == 
 abbrev pub is_part : ℕ → Bool
 is_part c = is_letter c || nat_le 48 c && nat_le c 57
 
--- what stands in a string for itself: no `"`, no backslash and no line end
-abbrev pub is_plain : ℕ → Bool
-is_plain c = not (c == 34 || c == 92 || is_line_end c)
-
 -- whether the first character passes a test
 abbrev pub begins : (ℕ → Bool) → List ℕ → Bool
 begins test [] = false

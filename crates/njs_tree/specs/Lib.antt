@@ -1,9 +1,5 @@
 pub mod Characters
 pub mod Names
-pub mod Tokens
-pub mod Script
-pub mod Reads
-pub mod Reader
 pub mod Lexemes
 pub mod Lexical
 pub mod TokenList
@@ -11,3 +7,4 @@ pub mod Symbols
 pub mod Grammar
 pub mod Brackets
 pub mod Early
+pub mod Accepted

@@ -22,7 +22,3 @@ is_name text = is_word text && not (is_reserved text)
 -- the names that strict mode lets nobody bind (ECMA-262 5.1 §13.1)
 abbrev pub is_protected : List ℕ → Bool
 is_protected text = bytes_eq text (codes "eval") || bytes_eq text (codes "arguments")
-
--- a name that a function or a parameter may have
-unfoldable pub is_bindable : List ℕ → Bool
-is_bindable text = is_name text && not (is_protected text)

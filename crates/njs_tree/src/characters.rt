@@ -1,6 +1,6 @@
-// The kinds of characters, and the lines of a text.
-ghost use Rattle.std.specs.Prelude.{◌≡◌, ◌≤◌, length};
-ghost use Rattle.njs_tree.specs.Characters.{is_line_end, is_white, is_letter, is_part, is_plain, ends_line, line_ends};
+// The kinds of characters.
+ghost use Rattle.std.specs.Prelude.{◌≡◌};
+ghost use Rattle.njs_tree.specs.Characters.{is_line_end, is_white, is_letter, is_part};
 
 /// LF, CR, U+2028 and U+2029 (ECMA-262 5.1 §7.3).
 pub fn is_line_end(c: char) -> bool
@@ -28,32 +28,4 @@ pub fn is_part(c: char) -> bool
     ensures { result ≡ is_part c }
 {
     is_letter(c) || c.is_ascii_digit()
-}
-
-pub fn is_plain(c: char) -> bool
-    ensures { result ≡ is_plain c }
-{
-    c != '"' && c != '\\' && !is_line_end(c)
-}
-
-fn ends_line(c: char, after: &[char]) -> bool
-    ensures { result ≡ ends_line c after.now }
-{
-    is_line_end(c) && !(c == '\r' && after.first() == Some(&'\n'))
-}
-
-/// How many lines end in a text.
-pub fn line_ends(text: &[char]) -> usize
-    ensures ends { result ≡ line_ends text.now }
-    ensures few { result ≤ length text.now }
-{
-    let mut count = 0;
-    let mut rest = text;
-    while let [c, after @ ..] = rest {
-        if ends_line(*c, after) {
-            count += 1;
-        }
-        rest = after;
-    }
-    count
 }

@@ -2,7 +2,7 @@
 ghost use Rattle.std.specs.Prelude.{◌≡◌, map, bytes_eq};
 ghost use Rattle.std.specs.List.{list_all, list_any};
 ghost use Rattle.njs_tree.specs.Characters.{is_letter, is_part, begins};
-ghost use Rattle.njs_tree.specs.Names.{is_reserved, is_name, is_bindable};
+ghost use Rattle.njs_tree.specs.Names.{is_reserved, is_name};
 
 use crate::characters::{is_letter, is_part};
 use njs_text::Text;
@@ -99,24 +99,10 @@ fn is_name_bytes(bytes: &[u8]) -> bool
     begins_with_letter(bytes) && all_parts(bytes) && !is_reserved(bytes)
 }
 
-#[tactic(auto, unfolding(crate::specs::Names::is_bindable))]
-fn is_bindable_bytes(bytes: &[u8]) -> bool
-    ensures { result ≡ is_bindable bytes.now }
-{
-    is_name_bytes(bytes) && bytes != b"eval".as_slice() && bytes != b"arguments".as_slice()
-}
-
 /// Whether a text is a name of the language: a word that isn't reserved (ECMA-262 5.1 §7.6). A word is a letter a to z or A to Z,
 /// `$` or `_`, and then such letters and digits.
 pub fn is_name(text: &Text) -> bool
     ensures { result ≡ is_name text.now }
 {
     is_name_bytes(text.as_bytes())
-}
-
-/// Whether a function or a parameter may have the text as its name.
-pub fn is_bindable(text: &Text) -> bool
-    ensures { result ≡ is_bindable text.now }
-{
-    is_bindable_bytes(text.as_bytes())
 }
