@@ -23,3 +23,12 @@ pub mod Once
 pub mod Items
 pub mod Knot
 pub mod Examples
+pub mod Slices
+pub mod Turns
+pub mod Tokens
+pub mod StringParts
+pub mod Takes
+pub mod Nesting
+pub mod Answered
+pub mod Stops
+pub mod ByLead

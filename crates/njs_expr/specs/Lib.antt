@@ -3,4 +3,9 @@ pub mod Expressions
 pub mod Statements
 pub mod Descent
 pub mod Reads
+pub mod Cuts
+pub mod Escapes
 pub mod Laws
+pub mod Answers
+pub mod Leads
+pub mod Heads
