@@ -1,11 +1,9 @@
 -- A text that is cut token by token.
-use Rattle.std.proofs.Common.{◌≡◌, ℕ, zero, suc, ◌+◌, ◌-◌, ◌<◌, ◌≤◌, Bool, true, false, List, [], ◌∷◌, ◌++◌, length, take, drop, Option, Some, None, Result, Ok, Err, option_map, refl, ap, subst, sym, ◌∙◌, arith, ◌==◌, if◌then◌else◌, inl, inr, append_assoc}
+use Rattle.std.proofs.Common.{◌≡◌, ℕ, zero, suc, ◌+◌, ◌-◌, ◌<◌, ◌≤◌, Bool, true, false, List, [], ◌∷◌, ◌++◌, length, take, drop, Option, Some, None, Result, Ok, Err, option_map, refl, ap, subst, sym, ◌∙◌, arith, ◌==◌, if◌then◌else◌, append_assoc}
 use Rattle.std.proofs.lemmas.Bool.Decides.{nat_tests}
 use Rattle.std.proofs.lemmas.List.{drop-drop, append-nil}
 use Rattle.std.specs.Str.{encode_utf8_all, all_scalars, IsCharBoundary}
 use Rattle.njs_tree.specs.declared.token.Token.{Token}
-use Rattle.njs_tree.specs.declared.token.Kind.{Kind}
-use Rattle.njs_tree.specs.declared.token.Kind.TheVariants as kind
 use Rattle.njs_tree.specs.declared.token.Keyword.{Keyword}
 use Rattle.njs_tree.specs.declared.token.Mark.{Mark}
 use Rattle.njs_tree.specs.declared.token.LexFault.{LexFault}
@@ -14,11 +12,11 @@ use Rattle.njs_tree.specs.Names.{is_word}
 use Rattle.njs_tree.specs.Lexemes.{Lexeme, word, name_unless, keyword_of, mark_of, marks}
 use Rattle.njs_tree.specs.Lexical.{is_decimal, is_quote, is_number, number_value, string_from, string_of_length, word_lexeme, number_lexeme, mark_lexeme, lexeme_at}
 use Rattle.njs_tree.specs.TokenList.{Blanks, Begins, IsNext, NextFrom, Tokens, TokensFrom, kind_of, token_of, place_of, text_from, line_after}
-use Rattle.njs_lexer.proofs.Runs.{never, none_some, some_one}
+use Rattle.njs_lexer.proofs.Runs.{never, none_some}
 use Rattle.njs_lexer.proofs.Cutting.{blanks_bytes, rest_bytes}
 use Rattle.njs_stmt.specs.Cut.{StandsIn, IsCut, is_end}
 use Rattle.njs_stmt.specs.Script.{is_over}
-use Rattle.njs_stmt.proofs.Places.{from_place, boundary, fewer_bytes, ends_drop, is_line, passed_line, blanks_rest}
+use Rattle.njs_stmt.proofs.Places.{from_place, boundary, fewer_bytes, is_line, passed_line, blanks_rest}
 
 -- ---- the end is no token of some characters, and no token has none
 

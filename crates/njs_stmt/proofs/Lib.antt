@@ -1,4 +1,7 @@
 mod Cutting
-mod Items
+mod LineEnds
+mod Lookups
+mod NextItems
 mod Places
+mod Reading
 mod Symbols

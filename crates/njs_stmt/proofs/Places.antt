@@ -1,14 +1,12 @@
 -- Rests of a text: their bytes, their places and their lines.
-use Rattle.std.proofs.Common.{◌≡◌, ℕ, zero, suc, ◌+◌, ◌-◌, ◌<◌, ◌≤◌, ◌^◌, min, Bool, true, false, List, [], ◌∷◌, ◌++◌, length, take, drop, slice_get, Option, Some, None, Result, Ok, Err, option_map, refl, ap, subst, sym, ◌∙◌, arith, ◌==◌, if◌then◌else◌, ◌⊎◌, inl, inr, nat_lt, length-append, length-drop, append_assoc, rules}
-use Rattle.std.proofs.lemmas.Bool.Decides.{nat_tests}
+use Rattle.std.proofs.Common.{◌≡◌, ℕ, zero, suc, ◌+◌, ◌-◌, ◌<◌, ◌≤◌, ◌^◌, min, Bool, true, false, List, [], ◌∷◌, ◌++◌, length, take, drop, slice_get, Some, None, refl, ap, subst, sym, ◌∙◌, arith, if◌then◌else◌, length-append, length-drop}
 use Rattle.std.proofs.lemmas.List.{drop-drop}
-use Rattle.std.specs.Str.{chars, encode_utf8_all, all_scalars, IsUtf8, IsCharBoundary}
-use Rattle.std.proofs.lemmas.Str.{encodes-append, chars-encodes, encodes-chars, length-le-encodes, IsCharBoundary-at_seam}
+use Rattle.std.specs.Str.{chars, encode_utf8_all, all_scalars, IsCharBoundary}
+use Rattle.std.proofs.lemmas.Str.{encodes-append, chars-encodes, length-le-encodes, IsCharBoundary-at_seam}
 use Rattle.njs_tree.specs.Characters.{IsLine, line_ends, line_at, ends_line}
 use Rattle.njs_tree.specs.TokenList.{Blanks, place_of, text_from, line_after}
 use Rattle.njs_tree.specs.Lexical.{blank_length}
-use Rattle.njs_lexer.proofs.Runs.{never, and_right, some_one, none_some}
-use Rattle.njs_lexer.proofs.Cutting.{rest_bytes}
+use Rattle.njs_lexer.proofs.Runs.{and_right, some_one, none_some}
 use Rattle.njs_stmt.specs.Cut.{IsRest, FirstEnd}
 
 split : (n : ℕ) (i : List ℕ) → i ≡ take n i ++ drop n i

@@ -1,5 +1,5 @@
 -- The tokens of a text and what stands at their places.
-use Rattle.std.proofs.Common.{◌≡◌, ℕ, zero, suc, ◌+◌, ◌-◌, ◌<◌, ◌≤◌, Bool, true, false, not, if◌then◌else◌, List, [], ◌∷◌, length, drop, slice_get, map, bytes_eq, codes, Option, Some, None, Result, Ok, Err, refl, ap, subst, sym, ◌∙◌, arith, ◌⊎◌, inl, inr, length-drop}
+use Rattle.std.proofs.Common.{◌≡◌, ℕ, zero, suc, ◌+◌, ◌<◌, ◌≤◌, Bool, true, false, if◌then◌else◌, List, [], ◌∷◌, length, drop, slice_get, map, bytes_eq, codes, Option, Some, None, refl, ap, subst, sym, ◌∙◌, arith, ◌⊎◌, inl, inr}
 use Rattle.std.proofs.lemmas.List.{drop-drop}
 use Rattle.std.specs.List.{find}
 use lib.Pointwise.{bytes_decides}
@@ -11,23 +11,19 @@ use Rattle.njs_tree.specs.declared.token.Mark.TheVariants as mark
 use Rattle.njs_tree.specs.declared.token.Keyword.{Keyword}
 use Rattle.njs_tree.specs.declared.token.Keyword.TheVariants as keyword
 use Rattle.njs_tree.specs.declared.token.LexFault.{LexFault}
-use Rattle.njs_tree.specs.declared.tree.Expr.{Expr}
-use Rattle.njs_tree.specs.declared.tree.Stmt.{Stmt}
 use Rattle.njs_tree.specs.declared.tree.Item.{Item}
-use Rattle.njs_tree.specs.declared.tree.Item.TheVariants as items
 use Rattle.njs_tree.specs.declared.tree.Script.{Script}
 use Rattle.njs_tree.specs.Characters.{IsLine, line_at}
-use Rattle.njs_tree.specs.Lexemes.{Lexeme, Symbol, word, name_unless, keyword_of, keyword_text, keywords}
-use Rattle.njs_tree.specs.Symbols.{lexeme_of}
-use Rattle.njs_tree.specs.TokenList.{Begins, Tokens, TokensFrom, token_of, place_of, symbol_of, symbols_of, lexeme_by, kind_of}
-use Rattle.njs_tree.specs.Brackets.{too_deep, IsTooDeep}
-use Rattle.njs_tree.specs.Grammar.{IsExpression, IsWholeItem, IsItem, Items, IsParsed}
+use Rattle.njs_tree.specs.Lexemes.{Lexeme, word, name_unless, keyword_of, keyword_text, keywords}
+use Rattle.njs_tree.specs.TokenList.{Tokens, TokensFrom, token_of, place_of, symbol_of, symbols_of, lexeme_by}
+use Rattle.njs_tree.specs.Brackets.{too_deep}
+use Rattle.njs_tree.specs.Grammar.{Items, IsParsed}
 use Rattle.njs_lexer.proofs.Runs.{never, none_some, some_one}
 use Rattle.njs_lexer.proofs.Once.{one_from}
 use Rattle.njs_lexer.proofs.Cutting.{rest_bytes}
-use Rattle.njs_expr.specs.Readers.{Symbols, next_of, terminal_of, sees, sees_word, semicolon, tail}
+use Rattle.njs_expr.specs.Readers.{Symbols, next_of, terminal_of, sees, sees_word, semicolon}
 use Rattle.njs_expr.proofs.Terminals.{word_seen_is, is_word_seen}
-use Rattle.njs_stmt.specs.Cut.{Placed, IsCut, is_end}
+use Rattle.njs_stmt.specs.Cut.{Placed, is_end}
 use Rattle.njs_stmt.specs.Script.{is_over, ends_here, is_comma, semicolon_size, EndsAt, Finishes, IsShallow}
 use Rattle.njs_stmt.proofs.Places.{boundary, is_line, blanks_rest}
 
@@ -168,7 +164,7 @@ reserved_holds : (w : List ℕ) (k : Keyword) → word w ≡ Lexeme.reserved k �
 unfolding keyword_of
 reserved_holds w k e = find_holds (λ q. bytes_eq w (keyword_text q)) keywords k (name_word w (keyword_of w) k e)
 
-same_bool : (a b : Bool) → (a ≡ true → b ≡ true) → (b ≡ true → a ≡ true) → a ≡ b
+pub same_bool : (a b : Bool) → (a ≡ true → b ≡ true) → (b ≡ true → a ≡ true) → a ≡ b
 same_bool true b f g = sym (f refl)
 same_bool false true f g = g refl
 same_bool false false f g = refl

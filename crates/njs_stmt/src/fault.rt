@@ -7,7 +7,7 @@ pub enum ScriptFault {
     /// the 201st level.
     TooDeep(u32),
     /// The text is spelled by no tree of a depth up to 1,000 (ECMA-262 5.1 §7 to §14). The line is one of the text: that of the token
-    /// at which reading stopped, or of the last one before a place at which none stands.
+    /// at which reading stopped, or where no token stands at a place, that on which the token before it ends.
     Syntax(u32),
     /// A growth was refused.
     NoMemory,

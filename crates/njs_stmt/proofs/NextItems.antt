@@ -1,5 +1,5 @@
 -- The items of a script, found one at a time.
-use Rattle.std.proofs.Common.{◌≡◌, ℕ, zero, suc, ◌+◌, ◌<◌, ◌≤◌, max, Bool, true, false, ◌||◌, List, [], ◌∷◌, ◌++◌, length, drop, Option, Some, None, refl, ap, subst, sym, ◌∙◌, arith, append_assoc}
+use Rattle.std.proofs.Common.{◌≡◌, ℕ, ◌≤◌, max, Bool, true, false, ◌||◌, List, [], ◌∷◌, ◌++◌, Some, None, refl, ap, subst, sym, ◌∙◌, arith, append_assoc}
 use Rattle.std.proofs.lemmas.List.{append-nil}
 use Rattle.njs_tree.specs.declared.token.Keyword.TheVariants as keyword
 use Rattle.njs_tree.specs.declared.token.Mark.TheVariants as mark
@@ -9,7 +9,7 @@ use Rattle.njs_tree.specs.declared.tree.Item.{Item}
 use Rattle.njs_tree.specs.declared.tree.Item.TheVariants as items
 use Rattle.njs_tree.specs.Lexemes.{Lexeme, Symbol}
 use Rattle.njs_tree.specs.Symbols.{lexeme_of, goes_on, strength, binds, joint_of}
-use Rattle.njs_tree.specs.Grammar.{Ends, Spells, IsItem, Items, IsExpression, IsWholeItem, max_depth}
+use Rattle.njs_tree.specs.Grammar.{Ends, IsItem, Items, IsExpression, IsWholeItem, max_depth}
 use Rattle.njs_expr.specs.Readers.{Symbols, next_of, terminal_of, sees, sees_word, semicolon, tail}
 use Rattle.njs_expr.proofs.Forwards.{never, ended}
 use Rattle.njs_expr.proofs.Backwards.{some_pair, none_some}
@@ -25,7 +25,7 @@ foreign_as : (x y : Lexeme) → x ≡ y → is_foreign (terminal_of y) ≡ true 
 foreign_as x y e h = rw e h
 
 -- neither the end nor an `export` begins an item
-no_item : {s : Stmt} {d : ℕ} {i r : Symbols} {A : Type 0} → IsItem s d i r → (y : Lexeme) → lexeme_of i ≡ y → is_foreign (terminal_of y) ≡ true → A
+pub no_item : {s : Stmt} {d : ℕ} {i r : Symbols} {A : Type 0} → IsItem s d i r → (y : Lexeme) → lexeme_of i ≡ y → is_foreign (terminal_of y) ≡ true → A
 no_item {i = i} h y e foreign = absurd (never (sym (foreign_as (lexeme_of i) y e foreign) ∙ item_native h))
 
 over_here : (t : Symbol) → t.lexeme ≡ Lexeme.over → is_over t.lexeme ≡ true
