@@ -3,7 +3,7 @@ use Rattle.njs_tree.specs.declared.token.EarlyFault.{EarlyFault}
 use Rattle.njs_tree.specs.declared.tree.Item.{Item}
 use Rattle.njs_tree.specs.Early.{of_items, first_early}
 use Rattle.njs_early.specs.Walk.{answer}
-use Rattle.njs_early.proofs.script.check.Goals as goal
+use Rattle.njs_early.proofs.script.refused.Goals as goal
 
 IsFirst : List EarlyFault → Result (Unit {0}) EarlyFault → Type 0
 IsFirst xs r = MatchResult r (λ _. xs ≡ []) (λ fault. first_early xs ≡ Some fault)
