@@ -1,8 +1,6 @@
 -- Heaps stay without numbers of what isn't there.
-use Rattle.std.proofs.Common.{◌≡◌, ℕ, zero, suc, ◌+◌, ◌<◌, ◌≤◌, ◌^◌, List, [], ◌∷◌, ◌++◌, Option, Some, None, length, length-append, slice_get, slice_set, ap, sym, refl, subst, ◌∙◌, arith, pos, replicate}
+use Rattle.std.proofs.Common.{◌≡◌, ℕ, zero, suc, ◌<◌, ◌≤◌, ◌^◌, List, [], ◌∷◌, ◌++◌, Some, length, length-append, slice_get, slice_set, ap, sym, refl, subst, arith, replicate}
 use Rattle.std.specs.List.{AllByRecursion}
-use Rattle.std.specs.Option.{ForSome}
-use Rattle.njs_value.specs.Object.{Object}
 use Rattle.njs_value.specs.declared.Value.{Value}
 use Rattle.njs_value.specs.declared.Value.TheVariants.{Undefined, Null, Bool, Num, Str, Obj}
 use Rattle.njs_props.specs.declared.map.Property.{Property}
@@ -19,7 +17,7 @@ module _ {X : Type 0} (P : X → Type 0) where
   all_more Q more [] all = tt
   all_more Q more (x ∷ xs) all = (more x all.0, all_more Q more xs all.1)
 
-  all_push : (xs : List X) (x : X) → AllByRecursion P xs → P x → AllByRecursion P (xs ++ x ∷ [])
+  pub all_push : (xs : List X) (x : X) → AllByRecursion P xs → P x → AllByRecursion P (xs ++ x ∷ [])
   all_push [] x all here = (here, tt)
   all_push (y ∷ ys) x all here = (all.0, all_push ys x all.1 here)
 
@@ -44,7 +42,7 @@ length-set (y ∷ ys) zero x = refl
 length-set (y ∷ ys) (suc i) x = ap suc (length-set ys i x)
 
 -- a small number fits
-pub written-fits : (n : Sizes) (k : ℕ) → k < 2 ^ 33 → FitsValue n (written k)
+pub written-fits : (n : Sizes) (k : ℕ) → k < 2 ^ 32 → FitsValue n (written k)
 written-fits n k small = IsSafe-pos k (omega arith)
 
 -- no fewer objects, scopes and texts

@@ -2,6 +2,13 @@ pub mod Chains
 pub mod Elements
 pub mod Fitting
 pub mod Kept
+pub mod OtherNames
+pub mod Lengths
+pub mod DefinedLengths
+pub mod Ending
+pub mod Held
 pub mod Longer
 pub mod Mapped
 pub mod MappedHeap
+pub mod Steps
+pub mod Walks

@@ -1,17 +1,17 @@
 -- The operations on one object commute with a map of the values.
-use Rattle.std.proofs.Common.{◌≡◌, ℕ, ◌+◌, List, [], ◌∷◌, Option, Some, None, Bool, true, false, cond, ap, refl, sym, ◌∙◌, is_some, max, nat_lt, ◌==◌, not, ◌||◌, unwrap_or, filter, if◌then◌else◌}
-use Rattle.std.specs.Option.{option_map, option_map_or, option_and_then}
+use Rattle.std.proofs.Common.{◌≡◌, ℕ, ◌+◌, List, [], ◌∷◌, Option, Some, None, Bool, true, false, cond, ap, refl, ◌∙◌, is_some, max, nat_lt, ◌==◌, not, unwrap_or, if◌then◌else◌}
+use Rattle.std.specs.Option.{option_map, option_map_or}
 use Rattle.njs_value.specs.declared.Flags.{Flags}
 use Rattle.njs_value.specs.declared.Class.{Class}
 use Rattle.njs_value.specs.declared.Cause.{Cause}
 use Rattle.njs_value.specs.declared.Cause.TheVariants.{ReadOnly, NotConfigurable, BadLength}
 use Rattle.njs_value.specs.declared.Desc.{Desc}
 use Rattle.njs_props.specs.declared.map.Property.{Property}
-use Rattle.njs_props.specs.Names.{index_of, is_below, same_name}
+use Rattle.njs_props.specs.Names.{length_name, index_of, is_below, same_name}
 use Rattle.njs_props.specs.Props.{property, names_of, with_property, without_property, with_value, with_flags, kept_below}
 use Rattle.njs_meaning.specs.Properties.{Properties, Change, done, refused, all_flags, flags_of, with_put, put_refusal, define_refusal, changed_flags, defined, with_defined, define_plain, delete}
-use Rattle.njs_meaning.specs.Arrays.{length_name, least_length, array_length, has_fixed_length, with_given_flags, with_length, lengthened, put_element, put_in_array, define_past, define_element, define_length_value, define_length, define_in_array}
-use Rattle.njs_meaning.specs.Objects.{is_array, put, define, gives_other, first_props}
+use Rattle.njs_meaning.specs.Arrays.{least_length, array_length, has_fixed_length, with_given_flags, with_length, lengthened, put_element, put_in_array, define_past, define_element, define_length_value, define_length, define_in_array}
+use Rattle.njs_meaning.specs.Objects.{is_array, put, define, first_props}
 use Rattle.njs_clone.specs.StandsFor.{mapped, mapped_all, mapped_change, mapped_desc}
 
 abbrev change_of : {V : Type 0} → Option Cause → Properties V → Change V

@@ -1,9 +1,9 @@
 // What is done with the properties of an array.
 ghost use Rattle.std.specs.Prelude.{◌≡◌, ◌<◌, ◌+◌, ◌^◌, OnErr, IfOk, max, if◌then◌else◌};
 ghost use Rattle.std.specs.Option.{option_map_or};
-ghost use Rattle.njs_props.specs.Names.{index_of};
+ghost use Rattle.njs_props.specs.Names.{length_name, index_of};
 ghost use Rattle.njs_meaning.specs.Arrays as spec;
-ghost use Rattle.njs_meaning.specs.Arrays.{length_name, array_length, least_length, with_length, put_element};
+ghost use Rattle.njs_meaning.specs.Arrays.{array_length, least_length, with_length, put_element};
 ghost use Rattle.njs_clone.specs.Content.{stored, written};
 ghost use Rattle.njs_clone.specs.Gives.{Leaves};
 

@@ -11,5 +11,8 @@ mod reads;
 #[cfg(test)]
 mod tests;
 
-pub use laws::{new_texts_change_no_object, operations_go_by_content};
+pub use laws::{
+    ends_go_by_content, new_texts_change_no_object, operations_go_by_content,
+    walks_come_to_their_ends,
+};
 pub use machine::Machine;

@@ -1,16 +1,20 @@
 // The heap of one machine.
 ghost use Rattle.std.specs.Prelude.{◌≡◌, ◌<◌, ◌≤◌, ◌+◌, ◌==◌, [], ◌∷◌, ◌++◌, Some, None, IsOk, Err, MatchOption, length, slice_get, IfOk, OnErr, OnOk};
 ghost use Rattle.std.specs.Option.{option_map, option_and_then, option_map_or, ForSome};
+ghost use Rattle.njs_value.specs.declared.Class.TheVariants.{Array};
 ghost use Rattle.njs_value.specs.declared.Value.TheVariants.{Undefined};
 ghost use Rattle.njs_value.specs.declared.HeapStop.TheVariants.{Throw};
 ghost use Rattle.njs_props.specs.Props.{property};
 ghost use Rattle.njs_shared.specs.Heap.{sizes};
-ghost use Rattle.njs_shared.specs.Fits.{FitsValue, FitsInner, FitsObject, FitsHeap};
+ghost use Rattle.njs_shared.specs.Fits.{FitsValue, FitsInner, FitsProperties, FitsObject, FitsHeap};
+ghost use Rattle.njs_shared.specs.Lengths.{HasLength, HasLengthOfArray, HasLengths};
+ghost use Rattle.njs_shared.specs.Ends.{HasEnds};
 ghost use Rattle.njs_meaning.specs.Chains.{own_at, get, nearest, keys};
 ghost use Rattle.njs_meaning.specs.Objects.{with_new_object, with_stopped, gives_other};
 ghost use Rattle.njs_meaning.specs.Values.{length_from};
 ghost use Rattle.njs_clone.specs.Content.{same_value, given, written};
 ghost use Rattle.njs_clone.specs.Gives.{GivesAt, put_in, define_in, delete_in, property_copied};
+ghost use Rattle.njs_clone.specs.Created.{with_object_of};
 ghost use Rattle.njs_clone.specs.Scopes.{with_new_scope, with_slot, slot_count, slot_at};
 
 use crate::changes::{Define, Delete, Put, SetSlot, StopExtensions};
@@ -18,6 +22,7 @@ use crate::properties::first_props;
 use crate::reads::read_own;
 use njs_layer::Layered;
 use njs_meaning::number_of_text;
+use njs_props::PropMap;
 use njs_shared::{Inner, Object, Scope, Shared};
 use njs_text::{List, NoMemory, Steps, Text};
 use njs_value::{Cause, Class, Desc, Flags, HeapStop, ObjId, ScopeId, TextId, Value};
@@ -27,6 +32,10 @@ use std::sync::ledger::Ledger;
 
 /// The objects, scopes and texts of one machine, each by its number. It begins with those of a heap that machines share;
 /// what it changes there it copies first, so no other machine sees the change. Contracts see the plain lists.
+///
+/// What holds of every `Shared` holds of every machine, and each call keeps it: numbers are the machine's own, every array has
+/// a `length` above each of its array indices, and every chain of prototypes, of scopes and of bound functions ends. `sizes`
+/// hands these facts on.
 ///
 /// A call that makes an object or a scope counts one step, and so does a copy of one of the shared ones; nothing else does.
 #[derive(Drop)]
@@ -39,12 +48,17 @@ pub struct Machine<'s> {
 impl<'s> Model for Machine<'s> {
     ghost use Rattle.njs_shared.specs.Heap.{Heap};
     ghost use Rattle.njs_shared.specs.Fits.{FitsHeap};
+    ghost use Rattle.njs_shared.specs.Lengths.{HasLengths};
+    ghost use Rattle.njs_shared.specs.Ends.{HasEnds};
 
     ghost Value = { Heap };
 
     ghost view = { λ m. record { objects = m.objects; scopes = m.scopes; texts = m.texts } };
 
-    ghost invariant = { λ m. FitsHeap (record { objects = m.objects; scopes = m.scopes; texts = m.texts }) };
+    ghost invariant = { λ m.
+        FitsHeap (record { objects = m.objects; scopes = m.scopes; texts = m.texts })
+        × HasLengths (record { objects = m.objects; scopes = m.scopes; texts = m.texts })
+        × HasEnds (record { objects = m.objects; scopes = m.scopes; texts = m.texts }) };
 }
 
 impl<'s> Machine<'s> {
@@ -77,7 +91,7 @@ impl<'s> Machine<'s> {
         ))
     }
 
-    /// How many objects, scopes and texts there are. It takes no memory.
+    /// How many objects, scopes and texts there are, and what holds of every machine. It takes no memory.
     pub fn sizes(&self) -> (u32, u32, u32)
         ensures objects { result.0 ≡ length self.now.objects }
         ensures scopes { result.1 ≡ length self.now.scopes }
@@ -85,6 +99,12 @@ impl<'s> Machine<'s> {
 
         // Every number of an object, a scope or a text in the machine is a place of it.
         ensures fits { FitsHeap self.now }
+
+        // Every array has its `length`, above each of its elements (ECMA-262 5.1 §15.4).
+        ensures lengths { HasLengths self.now }
+
+        // Every chain of prototypes, of scopes and of bound functions ends.
+        ensures ends { HasEnds self.now }
     {
         (
             self.objects.len() as u32,
@@ -93,11 +113,12 @@ impl<'s> Machine<'s> {
         )
     }
 
-    /// The object with a number. It takes no memory.
+    /// The object with a number; an array has its `length` (ECMA-262 5.1 §15.4). It takes no memory.
     pub fn object(&self, object: ObjId) -> &Object
         requires { object.0 < length self.now.objects }
         ensures object { slice_get self.now.objects object.0 ≡ Some result.now }
         ensures fits { FitsObject (sizes self.now) result.now }
+        ensures length { HasLengthOfArray result.now }
     {
         self.objects.get(object.0)
     }
@@ -330,6 +351,29 @@ impl<'s> Machine<'s> {
         ensures no_cell { OnErr result (steps.new ≡ steps.old) }
     {
         let props = first_props(alloc, class)?;
+        self.new_object_with(class, prototype, props, inner, steps)
+    }
+
+    /// Makes an object with these properties, which takes new ones and has the next number. An array has its `length` among
+    /// them (ECMA-262 5.1 §15.4). It counts one step, as `new_object`, and the properties none.
+    pub fn new_object_with<L: Ledger>(
+        &mut self,
+        class: Class,
+        prototype: Option<ObjId>,
+        props: PropMap<Value>,
+        inner: Inner,
+        steps: &mut Steps<L>,
+    ) -> Result<ObjId, NoMemory>
+        requires prototype { ForSome prototype (λ up. up.0 < length self.old.objects) }
+        requires props { FitsProperties (sizes self.old) props }
+        requires length { class ≡ Array → HasLength props }
+        requires inner { FitsInner (sizes self.old) inner }
+        ensures number { IfOk result (λ object. object.0 ≡ length self.old.objects) }
+        ensures ok { OnOk result (self.new ≡ record self.old { objects = with_object_of class prototype props inner self.old.objects }) }
+        ensures err { OnErr result (self.new ≡ self.old) }
+        ensures cell { OnOk result (steps.new ≡ steps.old + 1) }
+        ensures no_cell { OnErr result (steps.new ≡ steps.old) }
+    {
         let object = self.objects.push(Object {
             class,
             prototype,

@@ -1,9 +1,9 @@
 -- Ways that lead to earlier places end.
-use Rattle.std.proofs.Common.{◌≡◌, ℕ, zero, suc, ◌<◌, ◌+◌, List, [], ◌∷◌, Option, Some, None, Bool, true, sym, ap, ◌∙◌, arith, slice_get}
+use Rattle.std.proofs.Common.{◌≡◌, ℕ, zero, suc, ◌<◌, ◌+◌, List, [], ◌∷◌, Option, Some, Bool, true, sym, ap, ◌∙◌, arith, slice_get}
 use Rattle.std.specs.Prelude.{nat_lt, ◌&&◌}
 use Rattle.std.specs.Option.{option_map_or}
 use Rattle.std.proofs.lemmas.Bool.{and_parts, ltb-true}
-use Rattle.njs_meaning.specs.PlainHeap.{Ends}
+use Rattle.njs_value.specs.Ends.{Ends}
 
 -- each way from the n-th place on leads to an earlier one
 abbrev pub leads_back : ℕ → Option ℕ → Bool

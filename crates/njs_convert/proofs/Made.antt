@@ -1,8 +1,7 @@
 -- A new error, by content.
-use Rattle.std.proofs.Common.{◌≡◌, ℕ, zero, suc, ◌<◌, List, [], ◌∷◌, ◌++◌, Option, Some, None, length, map, slice_get, slice_set, sym, ap, refl, ◌∙◌, subst, arith, length-append, true, false}
-use Rattle.std.specs.Prelude.{slice_index_or, codes}
+use Rattle.std.proofs.Common.{◌≡◌, ℕ, zero, suc, ◌<◌, List, [], ◌∷◌, ◌++◌, Some, length, map, slice_get, sym, ap, refl, ◌∙◌, subst, arith, length-append, true}
+use Rattle.std.specs.Prelude.{slice_index_or}
 use Rattle.std.specs.List.{AllByRecursion}
-use Rattle.std.specs.Option.{option_map_or, option_and_then}
 use Rattle.njs_value.specs.declared.Cause.{Cause}
 use Rattle.njs_value.specs.declared.Class.TheVariants.{Error}
 use Rattle.njs_value.specs.declared.ObjId.{ObjId}
@@ -10,26 +9,23 @@ use Rattle.njs_value.specs.declared.TextId.{TextId}
 use Rattle.njs_value.specs.declared.Value.{Value}
 use Rattle.njs_value.specs.declared.Value.TheVariants as value
 use Rattle.njs_props.specs.declared.map.Property.{Property}
-use Rattle.njs_props.specs.Props.{property}
 use Rattle.njs_shared.specs.declared.object.Inner.{Inner}
 use Rattle.njs_shared.specs.declared.object.Inner.TheVariants as inner
 use Rattle.njs_shared.specs.Heap.{Heap, HeapObject, Sizes, sizes}
 use Rattle.njs_shared.specs.Fits.{FitsValue, FitsInner, FitsProperties, FitsObject, FitsHeap}
-use Rattle.njs_clone.specs.Content.{content, given, stored, written, same_value}
-use Rattle.njs_clone.specs.Gives.{define_in}
+use Rattle.njs_clone.specs.Content.{content}
+use Rattle.njs_clone.specs.Created.{with_object_of}
 use Rattle.njs_clone.specs.StandsFor.{mapped, mapped_all, mapped_object, content_inner, content_objects, plain_objects}
 use Rattle.njs_meaning.specs.declared.prototypes.Prototype.TheVariants.{Error as ErrorPrototype}
 use Rattle.njs_meaning.specs.Primitives.{Characters}
 use Rattle.njs_meaning.specs.Values.{PlainValue, Simple}
 use Rattle.njs_meaning.specs.PlainHeap.{PlainObject, PlainInner, Bound}
-use Rattle.njs_meaning.specs.Properties.{Change, done}
-use Rattle.njs_meaning.specs.Objects.{define, gives_other, with_props, with_new_object}
 use Rattle.njs_meaning.specs.Errors.{place_of, prototype_of, message_of, error_with}
-use Rattle.njs_convert.specs.Tells.{text_at, hidden_desc, message_props, fresh_error, MadeError}
+use Rattle.njs_convert.specs.Tells.{text_at, message_props, MadeError}
 use Rattle.njs_convert.proofs.Grown.{heap_with}
 
 -- ---- what was there stays where a text comes behind the others
-kept_at : (xs ys : List (List ℕ)) (i : ℕ) → i < length xs → slice_index_or (xs ++ ys) i [] ≡ slice_index_or xs i []
+pub kept_at : (xs ys : List (List ℕ)) (i : ℕ) → i < length xs → slice_index_or (xs ++ ys) i [] ≡ slice_index_or xs i []
 kept_at [] ys i h = absurd (omega arith)
 kept_at (x ∷ xs) ys zero h = refl
 kept_at (x ∷ xs) ys (suc i) h = kept_at xs ys i (omega arith)
@@ -84,45 +80,28 @@ pub push_get : {X : Type 0} (xs : List X) (x : X) → slice_get (xs ++ x ∷ [])
 push_get [] x = refl
 push_get (y ∷ ys) x = push_get ys x
 
-push_set : {X : Type 0} (xs : List X) (x y : X) → slice_set (xs ++ x ∷ []) (length xs) y ≡ xs ++ y ∷ []
-push_set [] x y = refl
-push_set (z ∷ zs) x y = ap (λ t. z ∷ t) (push_set zs x y)
-
-with_props_last : (xs : List HeapObject) (o : HeapObject) (ps : List (List ℕ × Property Value)) → with_props (xs ++ o ∷ []) (length xs) ps ≡ xs ++ record o { props = ps } ∷ []
-with_props_last xs o ps =
-    ap (λ r. option_map_or (λ (q : HeapObject). slice_set (xs ++ o ∷ []) (length xs) (record q { props = ps })) r (xs ++ o ∷ [])) (push_get xs o) ∙ push_set xs o (record o { props = ps })
-
--- the message of a new error is defined
-pub define_message : (h : Heap) (at : ℕ) (v : Value) (up : ObjId) → slice_get h.objects at ≡ Some (fresh_error up)
-    → define_in h at (codes "message") (hidden_desc v) ≡ record { props = message_props v; thrown = None }
-define_message h at v up there =
-    ap (λ r. option_map_or
-    (λ (o : HeapObject). define stored written value.Undefined (option_and_then (given h.texts) (Some v)) (gives_other (same_value h.texts) (hidden_desc v) (property (codes "message") o.props)) o.class o.extensible (codes "message") (hidden_desc v) o.props)
-    r (done []))
-    there
-
 -- ---- the whole
 abbrev pub error_object : ObjId → TextId → HeapObject
 error_object up text = record { class = Error; prototype = Some up; extensible = true; props = message_props (value.Str text); inner = inner.Plain }
 
-module _ (h a b : Heap) (message : List ℕ) (text : TextId) (up : ObjId) (at : ℕ)
-    (first : a ≡ heap_with h h.objects (h.texts ++ message ∷ [])) (second : b ≡ record a { objects = with_new_object written Error (Some up) inner.Plain a.objects }) (last : at ≡ length a.objects) where
-  pub made_second : b ≡ heap_with h (h.objects ++ fresh_error up ∷ []) (h.texts ++ message ∷ [])
-  made_second = second ∙ ap (λ (m : Heap). heap_with m (with_new_object written Error (Some up) inner.Plain m.objects) m.texts) first
+module _ (h a b : Heap) (message : List ℕ) (text : TextId) (props : List (List ℕ × Property Value)) (up : ObjId) (at : ℕ) (first : a ≡ heap_with h h.objects (h.texts ++ message ∷ []))
+    (same : props ≡ message_props (value.Str text)) (second : b ≡ record a { objects = with_object_of Error (Some up) props inner.Plain a.objects }) (last : at ≡ length a.objects) where
+  pub made_second : b ≡ heap_with h (h.objects ++ error_object up text ∷ []) (h.texts ++ message ∷ [])
+  made_second =
+      second ∙ ap (λ ps. heap_with a (with_object_of Error (Some up) ps inner.Plain a.objects) a.texts) same
+      ∙ ap (λ (m : Heap). heap_with m (with_object_of Error (Some up) (message_props (value.Str text)) inner.Plain m.objects) m.texts) first
 
   pub made_at : at ≡ length h.objects
   made_at = last ∙ ap (λ (m : Heap). length m.objects) first
 
-  pub made_fresh : slice_get b.objects at ≡ Some (fresh_error up)
-  made_fresh = ap (λ (m : Heap). slice_get m.objects at) made_second ∙ ap (slice_get (h.objects ++ fresh_error up ∷ [])) made_at ∙ push_get h.objects (fresh_error up)
+-- the message is one of the heap's texts
+pub message_fits : (h a : Heap) (message : List ℕ) (text : TextId) (props : List (List ℕ × Property Value)) → a ≡ heap_with h h.objects (h.texts ++ message ∷ []) → text.0 ≡ length h.texts
+    → props ≡ message_props (value.Str text) → FitsProperties (sizes a) props
+message_fits h a message text props first numbered same =
+    let within : text.0 < length a.texts = omega (arith, numbered, ap (λ (m : Heap). length m.texts) first, length-append h.texts (message ∷ [])) in
+    subst (FitsProperties (sizes a)) (sym same) (within, tt)
 
-  pub made_third : (c : Heap) → c ≡ record b { objects = with_props b.objects at (message_props (value.Str text)) } → c ≡ heap_with h (h.objects ++ error_object up text ∷ []) (h.texts ++ message ∷ [])
-  made_third c third =
-      third ∙ ap (λ (m : Heap). heap_with m (with_props m.objects at (message_props (value.Str text))) m.texts) made_second
-      ∙ ap (λ i. heap_with h (with_props (h.objects ++ fresh_error up ∷ []) i (message_props (value.Str text))) (h.texts ++ message ∷ [])) made_at
-      ∙ ap (λ os. heap_with h os (h.texts ++ message ∷ [])) (with_props_last h.objects (fresh_error up) (message_props (value.Str text)))
-
-map-push : (f : HeapObject → PlainObject) (xs : List HeapObject) (x : HeapObject) → map f (xs ++ x ∷ []) ≡ map f xs ++ f x ∷ []
+pub map-push : (f : HeapObject → PlainObject) (xs : List HeapObject) (x : HeapObject) → map f (xs ++ x ∷ []) ≡ map f xs ++ f x ∷ []
 map-push f [] x = refl
 map-push f (y ∷ ys) x = ap (λ t. f y ∷ t) (map-push f ys x)
 

@@ -1,6 +1,6 @@
 -- The heap that every run begins with: the prototypes of the language's objects (ECMA-262 5.1 §15), and the outermost scope
 -- with the global names.
-use Rattle.std.specs.Prelude.{◌≡◌, ℕ, List, [], ◌∷◌, ◌++◌, map, length, Option, Some, None, Bool, true, false, pos, codes, slice_get}
+use Rattle.std.specs.Prelude.{◌≡◌, ℕ, List, [], ◌∷◌, ◌++◌, map, length, Option, Some, None, Bool, true, false, codes, slice_get}
 use Rattle.std.specs.Option.{option_map}
 use Rattle.njs_value.specs.declared.Class.{Class}
 use Rattle.njs_value.specs.declared.Class.TheVariants as class
@@ -13,10 +13,10 @@ use Rattle.njs_clone.specs.Content.{content}
 use Rattle.njs_clone.specs.StandsFor.{plain_objects}
 use Rattle.njs_meaning.specs.declared.prototypes.Prototype.{Prototype}
 use Rattle.njs_meaning.specs.declared.prototypes.Prototype.TheVariants as prototype
-use Rattle.njs_meaning.specs.Primitives.{Undefined, Characters, Number}
-use Rattle.njs_meaning.specs.Values.{PlainValue, Simple}
+use Rattle.njs_meaning.specs.Primitives.{Undefined, Characters}
+use Rattle.njs_meaning.specs.Values.{PlainValue, Simple, length_value}
 use Rattle.njs_meaning.specs.PlainHeap.{PlainHeap, PlainObject, PlainScope, Variable, Plain}
-use Rattle.njs_meaning.specs.Properties.{only_writable}
+use Rattle.njs_meaning.specs.Objects.{first_props}
 use Rattle.njs_meaning.specs.Errors.{place_of, first_count, hidden}
 
 -- ---- objects
@@ -43,15 +43,11 @@ text_property name text = (name, record { value = Simple (Characters text); flag
 abbrev pub error_prototype : Prototype → List ℕ → PlainObject
 error_prototype up name = prototype_object class.Error (Some up) (text_property (codes "name") name ∷ text_property (codes "message") [] ∷ [])
 
--- the length of an array without elements (§15.4.4, §15.4.5.2)
-abbrev pub no_length : List ℕ × Property PlainValue
-no_length = (codes "length", record { value = Simple (Number (pos 0)); flags = only_writable })
-
 -- each prototype
 abbrev pub first_object : Prototype → PlainObject
 first_object prototype.Object = prototype_object class.Object None []
 first_object prototype.Function = prototype_object class.Object (Some prototype.Object) []
-first_object prototype.Array = prototype_object class.Array (Some prototype.Object) (no_length ∷ [])
+first_object prototype.Array = prototype_object class.Array (Some prototype.Object) (first_props length_value class.Array)
 first_object prototype.String = prototype_object class.Object (Some prototype.Object) []
 first_object prototype.Number = prototype_object class.Object (Some prototype.Object) []
 first_object prototype.Boolean = prototype_object class.Object (Some prototype.Object) []
@@ -106,7 +102,3 @@ nameless s = (s.parent, map (λ v. v.value) s.variables)
 pub record StandsFor (heap : Heap) (plain : PlainHeap) : Type 0 where
   pub objects : plain_objects heap ≡ plain.objects
   pub scopes : map (slots_of heap.texts) heap.scopes ≡ map nameless plain.scopes
-
--- how many properties of the prototypes are texts
-abbrev pub first_texts : ℕ
-first_texts = 14

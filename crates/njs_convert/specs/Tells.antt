@@ -1,24 +1,21 @@
 -- How an answer tells the outcome of the definition, and what every call leaves.
-use Rattle.std.specs.Prelude.{◌≡◌, ◌≤◌, ◌<◌, ◌+◌, true, false, Some, Option, ℕ, ℤ, List, [], ◌∷◌, ◌++◌, length, map, slice_index_or, slice_get, codes, Result, Ok, Err}
+use Rattle.std.specs.Prelude.{◌≡◌, ◌≤◌, ◌<◌, ◌+◌, false, Option, ℕ, ℤ, List, [], ◌∷◌, ◌++◌, length, map, slice_index_or, codes, Result, Ok, Err}
 use Rattle.std.specs.List.{AllByRecursion}
 use Rattle.std.specs.Option.{ForSome}
 use Rattle.njs_value.specs.declared.Cause.{Cause}
-use Rattle.njs_value.specs.declared.Class.TheVariants.{Error}
-use Rattle.njs_value.specs.declared.Desc.{Desc}
-use Rattle.njs_value.specs.declared.ObjId.{ObjId}
 use Rattle.njs_props.specs.declared.map.Property.{Property}
 use Rattle.njs_value.specs.declared.TextId.{TextId}
 use Rattle.njs_value.specs.declared.Value.{Value}
 use Rattle.njs_value.specs.declared.Value.TheVariants.{Obj}
 use Rattle.njs_shared.specs.declared.object.Inner.{Inner}
 use Rattle.njs_shared.specs.declared.object.Inner.TheVariants.{Plain, Script, BuiltIn, Bound, ZoneNumber}
-use Rattle.njs_shared.specs.Heap.{Heap, HeapObject, Sizes, sizes}
+use Rattle.njs_shared.specs.Heap.{Heap, Sizes}
 use Rattle.njs_shared.specs.Fits.{FitsValue}
 use Rattle.njs_clone.specs.Content.{content}
 use Rattle.njs_meaning.specs.Primitives.{Primitive}
 use Rattle.njs_meaning.specs.Numbers.{number_of}
-use Rattle.njs_meaning.specs.Values.{PlainValue, Simple, ObjectAt}
-use Rattle.njs_meaning.specs.State.{State, Outcome, Gives, Throws, Spent, Call}
+use Rattle.njs_meaning.specs.Values.{PlainValue, Simple}
+use Rattle.njs_meaning.specs.State.{State, Outcome, Gives, Throws, Spent}
 use Rattle.njs_meaning.specs.Errors.{hidden, error_with, prototype_of, name_of, message_of}
 use Rattle.njs_convert.specs.declared.stop.Stop.{Stop}
 use Rattle.njs_convert.specs.declared.stop.Stop.TheVariants.{Throw, Fuel, NoMemory}
@@ -105,20 +102,9 @@ HasNumber texts v number = (p : Primitive) → content texts v ≡ Simple p → 
 abbrev pub FitsCause : Sizes → Cause → Type 0
 FitsCause n cause = ForSome (name_of cause) (λ name. name.0 < n.texts)
 
--- a definition of a property that can be written and configured, and isn't enumerable
-abbrev pub hidden_desc : Value → Desc Value
-hidden_desc v = record { value = Some v; writable = Some true; enumerable = Some false; configurable = Some true }
-
 -- the properties of an error with a message
 abbrev pub message_props : Value → List (List ℕ × Property Value)
 message_props v = (codes "message", record { value = v; flags = hidden }) ∷ []
-
--- an error without properties
-abbrev pub fresh_error : ObjId → HeapObject
-fresh_error up = record { class = Error; prototype = Some up; extensible = true; props = []; inner = Plain }
-
-abbrev pub IsFresh : List HeapObject → ℕ → Type 0
-IsFresh objects at = (up : ObjId) × (slice_get objects at ≡ Some (fresh_error up))
 
 -- an error of this cause was made, as the last object
 pub record MadeError (cause : Cause) (old new : Heap) (object : ℕ) : Type 0 where
@@ -133,13 +119,13 @@ ThrowsError cause old new (Throw v) = ⊥
 ThrowsError cause old new Fuel = ⊥
 ThrowsError cause old new NoMemory = Unit {0}
 
--- the steps of an error: one for the object, and at most one more as its message is defined
+-- an error that is thrown counts one step, and want of memory none
 abbrev pub CountsError : ℕ → ℕ → Stop → Type 0
-CountsError old new (Throw v) = (old + 1 ≤ new) × (new ≤ old + 2)
+CountsError old new (Throw v) = new ≡ old + 1
 CountsError old new Fuel = ⊥
-CountsError old new NoMemory = (old ≤ new) × (new ≤ old + 2)
+CountsError old new NoMemory = new ≡ old
 
 -- a conversion that gives a value counts what its calls add; one that gives none may have made an error beside
 abbrev pub Counts : {V : Type 0} → (ℕ → Type 0) → ℕ → Result V Stop → Type 0
 Counts adds new (Ok v) = adds new
-Counts adds new (Err stop) = (called : ℕ) × adds called × (called ≤ new) × (new ≤ called + 2)
+Counts adds new (Err stop) = (called : ℕ) × adds called × (called ≤ new) × (new ≤ called + 1)

@@ -1,18 +1,25 @@
 // Errors that are thrown (ECMA-262 5.1 §15.11).
 ghost use Rattle.std.specs.Prelude.{◌≡◌, ◌≤◌, ◌<◌, ◌+◌, ◌++◌, [], List, ℕ, length, take, codes, IfOk, OnOk, OnErr};
 ghost use Rattle.njs_shared.specs.Heap.{sizes};
-ghost use Rattle.njs_meaning.specs.Objects.{with_props};
 ghost use Rattle.njs_meaning.specs.Errors.{first_count, prototype_of, name_of, message_of, named_message};
-ghost use Rattle.njs_convert.specs.Tells.{text_at, hidden_desc, message_props, IsFresh, FitsCause, Extends, MadeError, ThrowsError, CountsError};
+ghost use Rattle.njs_convert.specs.Tells.{text_at, message_props, FitsCause, Extends, MadeError, ThrowsError, CountsError};
 
 use crate::Stop;
 use njs_clone::Machine;
 use njs_meaning::Prototype;
+use njs_props::PropMap;
 use njs_shared::Inner;
 use njs_text::{NoMemory, Steps, Text};
-use njs_value::{Cause, Class, Desc, HeapStop, ObjId, TextId, Value};
+use njs_value::{Cause, Class, Flags, ObjId, TextId, Value};
 use std::alloc::Global;
 use std::sync::ledger::Ledger;
+
+// Of a property that can be written and configured, and isn't enumerable.
+pub(crate) const HIDDEN: Flags = Flags {
+    writable: true,
+    enumerable: false,
+    configurable: true,
+};
 
 fn prototype_of(cause: Cause) -> Prototype
     ensures { result ≡ prototype_of cause }
@@ -139,42 +146,17 @@ fn message_of(alloc: Global, machine: &Machine<'_>, cause: Cause) -> Result<Text
     }
 }
 
-// The definition of a property that can be written and configured, and isn't enumerable.
-pub fn hidden(value: Value) -> Desc
-    ensures { result ≡ hidden_desc value }
+// The properties of an error with a message.
+fn message_props(alloc: Global, message: TextId) -> Result<PropMap<Value>, NoMemory>
+    ensures { IfOk result (λ props. props ≡ message_props (Value.Str message)) }
 {
-    Desc {
-        value: Some(value),
-        writable: Some(true),
-        enumerable: Some(false),
-        configurable: Some(true),
-    }
+    let mut props = PropMap::new(alloc);
+    props.insert(message_name(), Value::Str(message), HIDDEN)?;
+    Ok(props)
 }
 
-// Gives a new error its message.
-fn put_message<L: Ledger>(
-    alloc: Global,
-    machine: &mut Machine<'_>,
-    object: ObjId,
-    message: TextId,
-    steps: &mut Steps<L>,
-) -> Result<(), NoMemory>
-    requires object { object.0 < length machine.old.objects }
-    requires fresh { IsFresh machine.old.objects object.0 }
-    requires message { message.0 < length machine.old.texts }
-    ensures ok { OnOk result (machine.new ≡ record machine.old { objects = with_props machine.old.objects object.0 (message_props (Value.Str message)) }) }
-    ensures err { OnErr result (machine.new ≡ machine.old) }
-    ensures cells { (steps.old ≤ steps.new) × (steps.new ≤ steps.old + 1) }
-{
-    let desc = hidden(Value::Str(message));
-    match machine.define(alloc, object, &message_name(), desc, steps) {
-        Ok(()) => Ok(()),
-        Err(HeapStop::NoMemory) => Err(NoMemory),
-        Err(HeapStop::Throw(_)) => unreachable!(),
-    }
-}
-
-fn message_name() -> Text
+// The name `message`. It takes no memory.
+pub(crate) fn message_name() -> Text
     ensures { result ≡ codes "message" }
 {
     Text::fixed("message")
@@ -190,20 +172,20 @@ fn error_object<L: Ledger>(
     requires cause { FitsCause (sizes machine.old) cause }
     ensures made { IfOk result (λ object. MadeError cause machine.old machine.new object.0) }
     ensures extends { Extends machine.old machine.new }
-    ensures cell { OnOk result (steps.old + 1 ≤ steps.new) }
-    ensures cells { (steps.old ≤ steps.new) × (steps.new ≤ steps.old + 2) }
+    ensures cell { OnOk result (steps.new ≡ steps.old + 1) }
+    ensures no_cell { OnErr result (steps.new ≡ steps.old) }
 {
     let _sizes = machine.sizes();
     let message = message_of(alloc, machine, cause)?;
     let text = machine.add_text(message)?;
+    let props = message_props(alloc, text)?;
     let up = ObjId(prototype_of(cause).place());
-    let object = machine.new_object(alloc, Class::Error, Some(up), Inner::Plain, steps)?;
-    put_message(alloc, machine, object, text, steps)?;
+    let object = machine.new_object_with(Class::Error, Some(up), props, Inner::Plain, steps)?;
     Ok(object)
 }
 
 /// Makes the error of a cause: an object of class Error, with the prototype of the cause's type and its message. The
-/// answer is a throw of that object, or want of memory.
+/// answer is a throw of that object, which counts one step, or want of memory, which counts none.
 pub fn throw<L: Ledger>(
     alloc: Global,
     machine: &mut Machine<'_>,

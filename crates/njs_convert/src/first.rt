@@ -1,66 +1,116 @@
 // The heap that every run begins with (ECMA-262 5.1 §15).
-ghost use Rattle.std.specs.Prelude.{◌≡◌, ◌≤◌, ◌+◌, [], List, ℕ, Bool, true, length, OnOk, OnErr};
-ghost use Rattle.std.specs.Option.{option_map};
+ghost use Rattle.std.specs.Prelude.{◌≡◌, ◌≤◌, ◌<◌, ◌+◌, [], ◌∷◌, ◌++◌, List, ℕ, Bool, true, length, codes, IfOk, OnOk, OnErr};
+ghost use Rattle.std.specs.Option.{option_map, ForSome};
+ghost use Rattle.std.specs.Str.{chars};
 ghost use Rattle.njs_clone.specs.StandsFor.{plain_objects};
-ghost use Rattle.njs_meaning.specs.Errors.{first_count};
-ghost use Rattle.njs_convert.specs.FirstHeap.{object_of, global_variables, first_heap, first_texts, first_objects, StandsFor};
-ghost use Rattle.njs_convert.specs.FirstRows.{made, HasMade, rows_fit, row_fits, defined, HasDefined, can_be_defined, can_all_be_defined};
+ghost use Rattle.njs_meaning.specs.Errors.{place_of, first_count};
+ghost use Rattle.njs_convert.specs.FirstHeap.{object_of, global_variables, error_prototype, first_heap, StandsFor};
+ghost use Rattle.njs_convert.specs.FirstRows.{named_props, with_plain, made, HasMade, rows_fit, row_fits};
 ghost use Rattle.njs_convert.specs.Tells.{Grows};
 
-use crate::errors::hidden;
+use crate::errors::{HIDDEN, message_name};
 use njs_clone::{Machine, operations_go_by_content};
 use njs_meaning::Prototype;
+use njs_props::PropMap;
 use njs_shared::Inner;
 use njs_text::{NoMemory, Steps, Text};
-use njs_value::{Class, HeapStop, ObjId, Value};
+use njs_value::{Class, ObjId, TextId, Value};
 use std::alloc::Global;
 use std::sync::ledger::Ledger;
 
-// An object: its class, and the prototype above it, which is the object of an earlier row.
+// An object, and the prototype above it, which is the object of an earlier row.
 #[derive(Clone, Copy)]
-struct FirstObject(Class, Option<Prototype>);
-
-// A text that is a property of an object: its owner, its name and the text.
-#[derive(Clone, Copy)]
-struct FirstText(Prototype, &'static str, &'static str);
+enum FirstObject {
+    // What a new object of a class has.
+    Plain(Class, Option<Prototype>),
+    // A prototype of errors, with their name and no message.
+    Errors(Prototype, &'static str),
+}
 
 const OBJECTS: [FirstObject; 13] = [
-    FirstObject(Class::Object, None),
-    FirstObject(Class::Object, Some(Prototype::Object)),
-    FirstObject(Class::Array, Some(Prototype::Object)),
-    FirstObject(Class::Object, Some(Prototype::Object)),
-    FirstObject(Class::Object, Some(Prototype::Object)),
-    FirstObject(Class::Object, Some(Prototype::Object)),
-    FirstObject(Class::Error, Some(Prototype::Object)),
-    FirstObject(Class::Error, Some(Prototype::Error)),
-    FirstObject(Class::Error, Some(Prototype::Error)),
-    FirstObject(Class::Error, Some(Prototype::Error)),
-    FirstObject(Class::Error, Some(Prototype::Error)),
-    FirstObject(Class::Error, Some(Prototype::Error)),
-    FirstObject(Class::Error, Some(Prototype::Error)),
-];
-
-const TEXTS: [FirstText; 14] = [
-    FirstText(Prototype::Error, "name", "Error"),
-    FirstText(Prototype::Error, "message", ""),
-    FirstText(Prototype::TypeError, "name", "TypeError"),
-    FirstText(Prototype::TypeError, "message", ""),
-    FirstText(Prototype::RangeError, "name", "RangeError"),
-    FirstText(Prototype::RangeError, "message", ""),
-    FirstText(Prototype::ReferenceError, "name", "ReferenceError"),
-    FirstText(Prototype::ReferenceError, "message", ""),
-    FirstText(Prototype::SyntaxError, "name", "SyntaxError"),
-    FirstText(Prototype::SyntaxError, "message", ""),
-    FirstText(Prototype::UriError, "name", "URIError"),
-    FirstText(Prototype::UriError, "message", ""),
-    FirstText(Prototype::SharedMemoryError, "name", "SharedMemoryError"),
-    FirstText(Prototype::SharedMemoryError, "message", ""),
+    FirstObject::Plain(Class::Object, None),
+    FirstObject::Plain(Class::Object, Some(Prototype::Object)),
+    FirstObject::Plain(Class::Array, Some(Prototype::Object)),
+    FirstObject::Plain(Class::Object, Some(Prototype::Object)),
+    FirstObject::Plain(Class::Object, Some(Prototype::Object)),
+    FirstObject::Plain(Class::Object, Some(Prototype::Object)),
+    FirstObject::Errors(Prototype::Object, "Error"),
+    FirstObject::Errors(Prototype::Error, "TypeError"),
+    FirstObject::Errors(Prototype::Error, "RangeError"),
+    FirstObject::Errors(Prototype::Error, "ReferenceError"),
+    FirstObject::Errors(Prototype::Error, "SyntaxError"),
+    FirstObject::Errors(Prototype::Error, "URIError"),
+    FirstObject::Errors(Prototype::Error, "SharedMemoryError"),
 ];
 
 fn object_of(up: Option<Prototype>) -> Option<ObjId>
     ensures { result ≡ option_map object_of up }
 {
     Some(ObjId(up?.place()))
+}
+
+// Makes an object with what a new one of its class has.
+fn make_plain<L: Ledger>(
+    alloc: Global,
+    machine: &mut Machine<'_>,
+    class: Class,
+    up: Option<Prototype>,
+    steps: &mut Steps<L>,
+) -> Result<(), NoMemory>
+    requires { ForSome up (λ up. place_of up < length machine.old.objects) }
+    ensures made { OnOk result (plain_objects machine.new ≡ with_plain class up (plain_objects machine.old)) }
+    ensures count { OnOk result (length machine.new.objects ≡ length machine.old.objects + 1) }
+    ensures scopes { machine.new.scopes ≡ machine.old.scopes }
+    ensures grows { Grows machine.old machine.new }
+    ensures cell { OnOk result (steps.new ≡ steps.old + 1) }
+    ensures no_cell { OnErr result (steps.new ≡ steps.old) }
+{
+    operations_go_by_content();
+    machine.new_object(alloc, class, object_of(up), Inner::Plain, steps)?;
+    Ok(())
+}
+
+// The name `name`. It takes no memory.
+fn name_name() -> Text
+    ensures { result ≡ codes "name" }
+{
+    Text::fixed("name")
+}
+
+// The properties of a prototype of errors.
+fn named_props(alloc: Global, name: TextId, message: TextId) -> Result<PropMap<Value>, NoMemory>
+    ensures { IfOk result (λ props. props ≡ named_props (Value.Str name) (Value.Str message)) }
+{
+    let mut props = PropMap::new(alloc);
+    props.insert(name_name(), Value::Str(name), HIDDEN)?;
+    props.insert(message_name(), Value::Str(message), HIDDEN)?;
+    Ok(props)
+}
+
+// Makes a prototype of errors.
+fn make_errors<L: Ledger>(
+    alloc: Global,
+    machine: &mut Machine<'_>,
+    up: Prototype,
+    name: &'static str,
+    steps: &mut Steps<L>,
+) -> Result<(), NoMemory>
+    requires up { place_of up < length machine.old.objects }
+    requires name { length name.now ≤ 1048576 }
+    ensures made { OnOk result (plain_objects machine.new ≡ plain_objects machine.old ++ error_prototype up (chars name.now) ∷ []) }
+    ensures count { OnOk result (length machine.new.objects ≡ length machine.old.objects + 1) }
+    ensures scopes { machine.new.scopes ≡ machine.old.scopes }
+    ensures grows { Grows machine.old machine.new }
+    ensures cell { OnOk result (steps.new ≡ steps.old + 1) }
+    ensures no_cell { OnErr result (steps.new ≡ steps.old) }
+{
+    let _sizes = machine.sizes();
+    let name = machine.add_text(Text::fixed(name))?;
+    let message = machine.add_text(Text::fixed(""))?;
+    let props = named_props(alloc, name, message)?;
+    let up = ObjId(up.place());
+    machine.new_object_with(Class::Error, Some(up), props, Inner::Plain, steps)?;
+    Ok(())
 }
 
 // Makes the object of a row.
@@ -74,15 +124,14 @@ fn make_object<L: Ledger>(
     ensures made { OnOk result (plain_objects machine.new ≡ made (plain_objects machine.old) row) }
     ensures count { OnOk result (length machine.new.objects ≡ length machine.old.objects + 1) }
     ensures scopes { machine.new.scopes ≡ machine.old.scopes }
-    ensures texts { machine.new.texts ≡ machine.old.texts }
-    ensures err { OnErr result (machine.new ≡ machine.old) }
+    ensures grows { Grows machine.old machine.new }
     ensures cell { OnOk result (steps.new ≡ steps.old + 1) }
     ensures no_cell { OnErr result (steps.new ≡ steps.old) }
 {
-    operations_go_by_content();
-    let up = object_of(row.1);
-    machine.new_object(alloc, row.0, up, Inner::Plain, steps)?;
-    Ok(())
+    match row {
+        FirstObject::Plain(class, up) => make_plain(alloc, machine, class, up, steps),
+        FirstObject::Errors(up, name) => make_errors(alloc, machine, up, name, steps),
+    }
 }
 
 // Makes the objects of a table, one behind another.
@@ -94,58 +143,14 @@ fn make_objects<L: Ledger>(
 ) -> Result<(), NoMemory>
     requires { rows_fit (length machine.old.objects) rows.now ≡ true }
     ensures made { OnOk result (HasMade rows.now (plain_objects machine.old) (plain_objects machine.new)) }
-    ensures count { length machine.old.objects ≤ length machine.new.objects }
+    ensures count { OnOk result (length machine.new.objects ≡ length machine.old.objects + length rows.now) }
     ensures scopes { machine.new.scopes ≡ machine.old.scopes }
-    ensures texts { machine.new.texts ≡ machine.old.texts }
+    ensures grows { Grows machine.old machine.new }
     ensures cells { OnOk result (steps.new ≡ steps.old + length rows.now) }
     ensures up { (steps.old ≤ steps.new) × (steps.new ≤ steps.old + length rows.now) }
 {
     for row in rows {
         make_object(alloc, machine, *row, steps)?;
-    }
-    Ok(())
-}
-
-// Defines the text of a row.
-fn define_text<L: Ledger>(
-    alloc: Global,
-    machine: &mut Machine<'_>,
-    row: FirstText,
-    steps: &mut Steps<L>,
-) -> Result<(), NoMemory>
-    requires { can_be_defined (plain_objects machine.old) row ≡ true }
-    ensures defined { OnOk result (plain_objects machine.new ≡ defined (plain_objects machine.old) row) }
-    ensures grows { Grows machine.old machine.new }
-    ensures scopes { machine.new.scopes ≡ machine.old.scopes }
-    ensures cells { (steps.old ≤ steps.new) × (steps.new ≤ steps.old + 1) }
-{
-    operations_go_by_content();
-    let _sizes = machine.sizes();
-    let text = machine.add_text(Text::fixed(row.2))?;
-    let owner = ObjId(row.0.place());
-    let desc = hidden(Value::Str(text));
-    match machine.define(alloc, owner, &Text::fixed(row.1), desc, steps) {
-        Ok(()) => Ok(()),
-        Err(HeapStop::NoMemory) => Err(NoMemory),
-        Err(HeapStop::Throw(_)) => unreachable!(),
-    }
-}
-
-// Defines the texts of a table, one after another.
-fn define_texts<L: Ledger>(
-    alloc: Global,
-    machine: &mut Machine<'_>,
-    rows: &[FirstText],
-    steps: &mut Steps<L>,
-) -> Result<(), NoMemory>
-    requires { can_all_be_defined (plain_objects machine.old) rows.now ≡ true }
-    ensures defined { OnOk result (HasDefined rows.now (plain_objects machine.old) (plain_objects machine.new)) }
-    ensures grows { Grows machine.old machine.new }
-    ensures scopes { machine.new.scopes ≡ machine.old.scopes }
-    ensures cells { (steps.old ≤ steps.new) × (steps.new ≤ steps.old + length rows.now) }
-{
-    for row in rows {
-        define_text(alloc, machine, *row, steps)?;
     }
     Ok(())
 }
@@ -169,12 +174,11 @@ pub fn first_heap<L: Ledger>(
     ensures first { OnOk result (length machine.new.objects ≡ first_count) }
     ensures grows { Grows machine.old machine.new }
 
-    // One step for each object and for the scope, and at most one for each text.
-    ensures cells { OnOk result (steps.old + (first_count + 1) ≤ steps.new) }
-    ensures up { (steps.old ≤ steps.new) × (steps.new ≤ steps.old + (first_count + 1 + first_texts)) }
+    // One step for each object, and one for the scope.
+    ensures cells { OnOk result (steps.new ≡ steps.old + (first_count + 1)) }
+    ensures up { (steps.old ≤ steps.new) × (steps.new ≤ steps.old + (first_count + 1)) }
 {
     make_objects(alloc, machine, &OBJECTS, steps)?;
-    define_texts(alloc, machine, &TEXTS, steps)?;
     machine.first_scope(alloc, slots, steps)?;
     Ok(())
 }

@@ -1,14 +1,11 @@
 -- What is done with the properties of an array (ECMA-262 5.1 §15.4.5.1), over any kind of values.
-use Rattle.std.specs.Prelude.{ℕ, ◌+◌, List, [], ◌∷◌, Bool, false, not, nat_lt, max, ◌==◌, Option, Some, None, if◌then◌else◌, codes}
+use Rattle.std.specs.Prelude.{ℕ, ◌+◌, List, [], ◌∷◌, Bool, false, not, nat_lt, max, ◌==◌, Option, Some, None, if◌then◌else◌}
 use Rattle.std.specs.Option.{option_map_or}
 use Rattle.njs_value.specs.declared.Cause.TheVariants.{ReadOnly, NotConfigurable, BadLength}
 use Rattle.njs_value.specs.declared.Desc.{Desc}
 use Rattle.njs_props.specs.Props.{property, with_value, with_flags, kept_below}
-use Rattle.njs_props.specs.Names.{index_of, same_name}
+use Rattle.njs_props.specs.Names.{length_name, index_of, same_name}
 use Rattle.njs_meaning.specs.Properties.{Properties, Change, done, refused, flags_of, with_put, define_refusal, changed_flags, define_plain, with_defined}
-
-abbrev pub length_name : List ℕ
-length_name = codes "length"
 
 module _ {V : Type 0} where
   -- a length that may be had: one past the last element that can't be deleted, where that is more

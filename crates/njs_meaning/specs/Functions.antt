@@ -12,14 +12,13 @@ use Rattle.njs_value.specs.declared.ObjId.{ObjId}
 use Rattle.njs_value.specs.declared.Row.{Row}
 use Rattle.njs_value.specs.declared.ScopeId.{ScopeId}
 use Rattle.njs_props.specs.declared.map.Property.{Property}
-use Rattle.njs_props.specs.Names.{same_name}
+use Rattle.njs_props.specs.Names.{length_name, same_name}
 use Rattle.njs_meaning.specs.declared.prototypes.Prototype.{Prototype}
 use Rattle.njs_meaning.specs.declared.prototypes.Prototype.TheVariants as prototype
 use Rattle.njs_meaning.specs.Primitives.{Undefined}
 use Rattle.njs_meaning.specs.Values.{PlainValue, Simple, ObjectAt, length_value}
 use Rattle.njs_meaning.specs.PlainHeap.{PlainObject, PlainInner, Plain, Script, BuiltIn, Bound, ZoneNumber, Variable}
 use Rattle.njs_meaning.specs.Properties.{all_flags, only_writable}
-use Rattle.njs_meaning.specs.Arrays.{length_name}
 use Rattle.njs_meaning.specs.Chains.{get}
 use Rattle.njs_meaning.specs.State.{State, Outcome, Gives, Call, and_then}
 use Rattle.njs_meaning.specs.Errors.{place_of, throw, hidden}
@@ -88,10 +87,6 @@ arguments_name = codes "arguments"
 abbrev pub names_of_scope : Function → List (List ℕ)
 names_of_scope f =
     each_once [] (f.params ++ map (λ d. d.name) f.declared ++ (if f.takes_arguments then arguments_name ∷ [] else []) ++ f.vars)
-
--- the value of an argument, undefined where there is none
-abbrev pub argument : List PlainValue → ℕ → PlainValue
-argument args i = option_map_or (λ v. v) (slice_get args i) (Simple Undefined)
 
 -- the variables, where the parameters have their arguments
 abbrev pub parameter_value : List (List ℕ) → List PlainValue → List ℕ → PlainValue

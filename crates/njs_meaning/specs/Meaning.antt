@@ -16,11 +16,11 @@ use Rattle.njs_tree.specs.declared.tree.ExprNode.TheOpen.{ExprNode-F, ForFirst-F
 use Rattle.njs_tree.specs.declared.tree.ExprNode.TheFolds.{fold-Expr, fold-Stmt}
 use Rattle.njs_value.specs.declared.Class.TheVariants as class
 use Rattle.njs_value.specs.declared.Desc.{Desc}
+use Rattle.njs_props.specs.Names.{length_name}
 use Rattle.njs_meaning.specs.declared.prototypes.Prototype.TheVariants as prototype
 use Rattle.njs_meaning.specs.Primitives.{Undefined, Null, Truth, Number, Characters}
 use Rattle.njs_meaning.specs.Values.{PlainValue, Simple, ObjectAt, is_same, given_length, stored_length, length_value}
 use Rattle.njs_meaning.specs.PlainHeap.{Plain}
-use Rattle.njs_meaning.specs.Arrays.{length_name}
 use Rattle.njs_meaning.specs.Objects.{define_at, with_new_object}
 use Rattle.njs_meaning.specs.State.{State, Outcome, Gives, Throws, and_then}
 use Rattle.njs_meaning.specs.Errors.{place_of}

@@ -4,14 +4,13 @@ use Rattle.std.specs.List.{list_any}
 use Rattle.std.specs.Option.{option_map, option_map_or, option_and_then}
 use Rattle.std.specs.Fmt.{decimal}
 use Rattle.njs_value.specs.declared.Cause.TheVariants.{NullBase, NotObject, NotConfigurable}
-use Rattle.njs_props.specs.Names.{same_name, index_of}
+use Rattle.njs_props.specs.Names.{length_name, same_name, index_of}
 use Rattle.njs_props.specs.Props.{property, names_of}
 use Rattle.njs_meaning.specs.declared.prototypes.Prototype.{Prototype}
 use Rattle.njs_meaning.specs.declared.prototypes.Prototype.TheVariants as prototype
 use Rattle.njs_meaning.specs.Primitives.{Primitive, Undefined, Null, Truth, Number, Characters}
 use Rattle.njs_meaning.specs.Values.{PlainValue, Simple, ObjectAt, given_length, stored_length, length_value}
 use Rattle.njs_meaning.specs.PlainHeap.{PlainObject}
-use Rattle.njs_meaning.specs.Arrays.{length_name}
 use Rattle.njs_meaning.specs.Chains.{chain, nearest, keys, get}
 use Rattle.njs_meaning.specs.Objects.{put_at, delete_at}
 use Rattle.njs_meaning.specs.State.{State, Outcome, Gives}

@@ -8,9 +8,10 @@ use Rattle.njs_value.specs.declared.Desc.{Desc}
 use Rattle.njs_value.specs.declared.Flags.{Flags}
 use Rattle.njs_value.specs.declared.ObjId.{ObjId}
 use Rattle.njs_props.specs.declared.map.Property.{Property}
+use Rattle.njs_props.specs.Names.{length_name}
 use Rattle.njs_props.specs.Props.{property}
 use Rattle.njs_meaning.specs.Properties.{Properties, Change, done, refused, with_put, put_refusal, define_plain, delete, only_writable}
-use Rattle.njs_meaning.specs.Arrays.{put_in_array, define_in_array, length_name}
+use Rattle.njs_meaning.specs.Arrays.{put_in_array, define_in_array}
 use Rattle.njs_meaning.specs.Chains.{nearest}
 
 abbrev pub is_array : Class → Bool

@@ -1,6 +1,7 @@
 -- The plain heap: objects and scopes as lists, values by content (ECMA-262 5.1 §8.6, §10.2).
-use Rattle.std.specs.Prelude.{ℕ, ◌≡◌, ◌<◌, List, map, Option, Some, None, Bool, slice_get}
+use Rattle.std.specs.Prelude.{ℕ, List, map, Option, Some, None, Bool}
 use Rattle.std.specs.Option.{option_map}
+use Rattle.njs_value.specs.Ends.{Ends}
 use Rattle.njs_value.specs.Object.{Object}
 use Rattle.njs_value.specs.declared.Row.{Row}
 use Rattle.njs_value.specs.declared.ScopeId.{ScopeId}
@@ -34,11 +35,6 @@ pub record PlainScope : Type 0 where
 pub record PlainHeap : Type 0 where
   pub objects : List PlainObject
   pub scopes : List PlainScope
-
--- each place leads to another or to none, and every way ends: a rank falls at each step
-pub record Ends (ways : List (Option ℕ)) : Type 0 where
-  pub rank : ℕ → ℕ
-  pub falls : (place next : ℕ) → slice_get ways place ≡ Some (Some next) → rank next < rank place
 
 -- where a bound function leads
 abbrev pub bound_target : PlainInner → Option ℕ

@@ -1,5 +1,5 @@
 -- Names that are array indices, and the order in which a script sees names.
-use Rattle.std.specs.Prelude.{◌≡◌, ◌≢◌, ◌<◌, ℕ, List, [], ◌++◌, Bool, true, not, ◌&&◌, nat_lt, Option, Some, None, if◌then◌else◌, filter, fold, map, is_some}
+use Rattle.std.specs.Prelude.{◌≡◌, ◌≢◌, ◌<◌, ℕ, List, [], ◌++◌, Bool, true, not, ◌&&◌, nat_lt, Option, Some, None, if◌then◌else◌, filter, fold, map, is_some, codes}
 use Rattle.std.specs.Option.{option_map_or}
 use Rattle.std.specs.Ordering.{nat_cmp}
 use Rattle.std.specs.BTreeMap.{insert_entry}
@@ -12,6 +12,10 @@ use Rattle.std.specs.Str.Parse.{digits_value}
 -- names are compared by content
 abbrev pub same_name : List ℕ → List ℕ → Bool
 same_name a b = bytes_eq a b
+
+-- the name of an array's length (ECMA-262 5.1 §15.4.5.2)
+abbrev pub length_name : List ℕ
+length_name = codes "length"
 
 -- the array index that a name is: a name is one where it is the decimal text of a number below 2^32 - 1
 -- (ECMA-262 5.1 §15.4)

@@ -1,2 +1,4 @@
 pub mod Heap
 pub mod Fits
+pub mod Lengths
+pub mod Ends

@@ -1,6 +1,8 @@
 // A heap that nothing changes.
 ghost use Rattle.std.specs.Prelude.{◌≡◌, ◌<◌, ◌^◌, [], Some, length, slice_get};
 ghost use Rattle.njs_shared.specs.Fits.{FitsHeap};
+ghost use Rattle.njs_shared.specs.Lengths.{HasLengths};
+ghost use Rattle.njs_shared.specs.Ends.{HasEnds};
 
 use crate::{Object, Scope};
 use njs_text::{List, Text};
@@ -9,6 +11,10 @@ use std::alloc::Global;
 use std::marker::Model;
 
 /// A heap that nothing changes, which machines share. Contracts see its lists of objects, scopes and texts.
+///
+/// Every number in it is that of an object, a scope or a text of its own; every array has an own `length`, neither enumerable
+/// nor configurable, that is above each of its array indices (ECMA-262 5.1 §15.4); and every chain of prototypes, of scopes
+/// and of bound functions ends. `sizes` hands these facts on.
 #[derive(Drop)]
 pub struct Shared {
     objects: List<Object>,
@@ -20,6 +26,8 @@ impl Model for Shared {
     ghost use Rattle.std.specs.Prelude.{◌<◌, ◌^◌, length};
     ghost use Rattle.njs_shared.specs.Heap.{Heap};
     ghost use Rattle.njs_shared.specs.Fits.{FitsHeap};
+    ghost use Rattle.njs_shared.specs.Lengths.{HasLengths};
+    ghost use Rattle.njs_shared.specs.Ends.{HasEnds};
 
     ghost Value = { Heap };
 
@@ -27,7 +35,9 @@ impl Model for Shared {
 
     ghost invariant = { λ s.
         (length s.objects < 2 ^ 32) × (length s.scopes < 2 ^ 32) × (length s.texts < 2 ^ 32)
-        × FitsHeap (record { objects = s.objects; scopes = s.scopes; texts = s.texts }) };
+        × FitsHeap (record { objects = s.objects; scopes = s.scopes; texts = s.texts })
+        × HasLengths (record { objects = s.objects; scopes = s.scopes; texts = s.texts })
+        × HasEnds (record { objects = s.objects; scopes = s.scopes; texts = s.texts }) };
 }
 
 impl Shared {
@@ -52,6 +62,12 @@ impl Shared {
 
         // Every number of an object, a scope or a text is a place of these lists.
         requires fits { FitsHeap (record { objects = objects.items; scopes = scopes.items; texts = texts.items }) }
+
+        // Every array has its `length`, above each of its elements.
+        requires lengths { HasLengths (record { objects = objects.items; scopes = scopes.items; texts = texts.items }) }
+
+        // Every chain of prototypes, of scopes and of bound functions ends.
+        requires ends { HasEnds (record { objects = objects.items; scopes = scopes.items; texts = texts.items }) }
         ensures { result ≡ record { objects = objects.items; scopes = scopes.items; texts = texts.items } }
     {
         Shared {
@@ -85,7 +101,7 @@ impl Shared {
         &self.texts.as_slice()[id.0 as usize]
     }
 
-    /// How many objects, scopes and texts there are.
+    /// How many objects, scopes and texts there are, and what holds of every such heap.
     pub fn sizes(&self) -> (u32, u32, u32)
         ensures objects { result.0 ≡ length self.now.objects }
         ensures scopes { result.1 ≡ length self.now.scopes }
@@ -93,6 +109,12 @@ impl Shared {
 
         // Every number of an object, a scope or a text in the heap is a place of it.
         ensures fits { FitsHeap self.now }
+
+        // Every array has its `length`, above each of its elements (ECMA-262 5.1 §15.4).
+        ensures lengths { HasLengths self.now }
+
+        // Every chain of prototypes, of scopes and of bound functions ends.
+        ensures ends { HasEnds self.now }
     {
         (
             self.objects.len() as u32,

@@ -1,2 +1,3 @@
 pub mod Number
 pub mod Object
+pub mod Ends

@@ -1,6 +1,5 @@
-use Rattle.std.proofs.Common.{◌≡◌, ◌≤◌, ◌∙◌, length, refl, lit≤}
+use Rattle.std.proofs.Common.{lit≤}
 use Rattle.std.specs.Str.{chars}
-use Rattle.njs_meaning.specs.Arrays.{length_name}
 use Rattle.njs_clone.proofs.arrays.length_text.Goals as goal
 
 pub fixed-requires : goal.fixed-requires
