@@ -11,7 +11,8 @@ use Rattle.njs_conn.specs.declared.script.ScriptStop.{ScriptStop}
 use Rattle.njs_conn.specs.declared.script.ScriptStop.TheVariants as stops
 use Rattle.njs_conn.specs.declared.builder.SiteFault.{SiteFault}
 use Rattle.njs_conn.specs.declared.builder.SiteFault.TheVariants as faults
-use Rattle.njs_conn.specs.Site.{Contents, file_names, AllRead, ReadsAll, Accepts, Refuses, AllAccepted, FirstRefused, script_room, AsksAlong, Unread, Names, NamesNoScript, ScriptFrom, TreesFrom, SiteFrom}
+use Rattle.njs_conn.specs.Site.{Contents, file_names, AllRead, ReadsAll, AllAccepted, FirstRefused, script_room, AsksAlong, Unread, Names, NamesNoScript, TreesFrom, SiteFrom}
+use Rattle.njs_conn.specs.Scripts.{Accepts, Refuses, ScriptFrom}
 
 -- the names that were asked so far, and those that are left
 pub record Asking (old now : Option (List (List ℕ))) (left all : List (List ℕ)) : Type 0 where

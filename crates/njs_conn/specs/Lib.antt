@@ -1,8 +1,11 @@
+pub mod Nodes
+pub mod FirstForm
+pub mod Scripts
 pub mod Site
 pub mod SiteCode
 pub mod Dictionary
 pub mod Meaning
-pub mod FirstForm
+pub mod Handled
 pub mod Running
 pub mod Answers
 pub mod Writer

@@ -6,31 +6,16 @@ use Rattle.std.specs.List.{list_any}
 use Rattle.njs_tree.specs.declared.tree.Item.{Item}
 use Rattle.njs_tree.specs.declared.tree.Item.TheVariants as items
 use Rattle.njs_tree.specs.declared.tree.FunctionTree.{FunctionTree, out-FunctionTree}
-use Rattle.njs_tree.specs.declared.tree.Expr.{Expr, out-Expr}
-use Rattle.njs_tree.specs.declared.tree.ExprNode.{ExprNode, ExprNode-F, out-ExprNode}
-use Rattle.njs_tree.specs.declared.tree.Stmt.{Stmt, out-Stmt}
-use Rattle.njs_tree.specs.declared.tree.StmtNode.{StmtNode, StmtNode-F, out-StmtNode}
-use Rattle.njs_tree.specs.declared.tree.ForFirst.{ForFirst}
-use Rattle.njs_tree.specs.declared.tree.ForInHead.{ForInHead}
-use Rattle.njs_tree.specs.declared.tree.Case.{Case}
+use Rattle.njs_tree.specs.declared.tree.Expr.{Expr}
+use Rattle.njs_tree.specs.declared.tree.ExprNode.{ExprNode-F}
+use Rattle.njs_tree.specs.declared.tree.Stmt.{Stmt}
+use Rattle.njs_tree.specs.declared.tree.StmtNode.{StmtNode-F}
 use Rattle.http_out.specs.declared.reply.Reply.{Reply}
 use Rattle.conf_read.specs.declared.conf.Location.{Location}
 use Rattle.http_in.specs.declared.request.Request.{Request}
 use Rattle.conf_read.specs.Choose.{choice}
+use Rattle.njs_conn.specs.Nodes.{ExprCases, StmtCases, expr_node, stmt_node, is_ok_status}
 use Rattle.njs_conn.specs.Site.{Site}
-
--- the node of an expression and of a statement, by its cases
-abbrev pub ExprCases : Type 0
-ExprCases = ExprNode-F ExprNode ForFirst ForInHead StmtNode Case Expr FunctionTree Stmt
-
-abbrev pub StmtCases : Type 0
-StmtCases = StmtNode-F ExprNode ForFirst ForInHead StmtNode Case Expr FunctionTree Stmt
-
-abbrev pub expr_node : Expr → ExprCases
-expr_node e = out-ExprNode (out-Expr e).node
-
-abbrev pub stmt_node : Stmt → StmtCases
-stmt_node s = out-StmtNode (out-Stmt s).node
 
 infixl 10 ◌>>=◌
 abbrev pub ◌>>=◌ : {A B : Type 0} → Option A → (A → Option B) → Option B
@@ -101,10 +86,6 @@ abbrev pub plain_text : ℕ → List ℕ → Reply
 plain_text status body = record { status = status; kind = codes "text/plain"; fields = []; body = body }
 
 -- the njs reference, `r.return`: with the status 200 and a text as body
-abbrev pub is_ok_status : ℤ → Bool
-is_ok_status (pos n) = n == 200
-is_ok_status _ = false
-
 abbrev pub returned : Value → Value → Option Reply
 returned (Number status) (String body) = if is_ok_status status then Some (plain_text 200 body) else None
 returned _ _ = None

@@ -1,18 +1,13 @@
--- A site, when a script's bytes are accepted, and what building a site may answer.
-use Rattle.std.specs.Prelude.{ℕ, List, [], ◌∷◌, ◌++◌, map, length, ◌≡◌, ◌≤◌, ◌<◌, ◌⊎◌, Option, Result, Ok, Err}
-use Rattle.std.specs.Str.{IsUtf8}
-use Rattle.std.specs.Str.Lossy.{utf8_valid_len}
-use Rattle.njs_text.specs.Text.{IsEncoded}
+-- A site, and what building one may answer.
+use Rattle.std.specs.Prelude.{ℕ, List, [], ◌∷◌, ◌++◌, map, ◌≡◌, ◌⊎◌, Option, Result, Ok, Err}
 use Rattle.njs_edge.specs.Files.{HasFront, Grew}
 use Rattle.njs_tree.specs.declared.tree.Script.{Script}
-use Rattle.njs_tree.specs.Script.{Spells}
-use Rattle.njs_tree.specs.Characters.{IsLine}
 use Rattle.conf_read.specs.declared.conf.Import.{Import}
 use Rattle.conf_read.specs.declared.conf.Conf.{Conf}
 use Rattle.njs_conn.specs.declared.script.ScriptWhy.{ScriptWhy}
-use Rattle.njs_conn.specs.declared.script.ScriptWhy.TheVariants as whys
 use Rattle.njs_conn.specs.declared.script.ScriptStop.{ScriptStop}
 use Rattle.njs_conn.specs.declared.script.ScriptStop.TheVariants as stops
+use Rattle.njs_conn.specs.Scripts.{Accepts, Refuses}
 use Rattle.njs_conn.specs.declared.builder.SiteFault.{SiteFault}
 use Rattle.njs_conn.specs.declared.builder.SiteFault.TheVariants as faults
 
@@ -21,31 +16,9 @@ pub record Site : Type 0 where
   pub conf : Conf
   pub trees : List Script
 
-abbrev pub max_script : ℕ
-max_script = 4096
-
--- a limit and one byte: a longer file is read no further
+-- the bytes of the longest script, and one more: a longer file is read no further
 abbrev pub script_room : ℕ
-script_room = 4097
-
--- the bytes are a script of this tree
-pub record Accepts (bytes : List ℕ) (script : Script) : Type 0 where
-  pub short : length bytes ≤ max_script
-  pub text : List ℕ
-  pub encoded : IsEncoded text bytes
-  pub spells : Spells script text
-
--- the bytes are refused for this cause
-abbrev pub Refuses : List ℕ → ScriptWhy → Type 0
-Refuses bytes (whys.NotUtf8 place) = (IsUtf8 bytes → ⊥) × (place ≡ utf8_valid_len bytes)
-Refuses bytes whys.TooLong = (max_script < length bytes) × (text : List ℕ) × IsEncoded text bytes
-Refuses bytes (whys.Syntax line) = (length bytes ≤ max_script) × (text : List ℕ) × IsEncoded text bytes × ((script : Script) → Spells script text → ⊥) × IsLine line text
-
--- what may be answered for a script's bytes
-abbrev pub ScriptFrom : List ℕ → Result Script ScriptStop → Type 0
-ScriptFrom bytes (Ok script) = Accepts bytes script
-ScriptFrom bytes (Err (stops.Refused why)) = Refuses bytes why
-ScriptFrom bytes (Err stops.NoMemory) = Unit {0}
+script_room = 1048577
 
 -- files that were read: each name with the first bytes of its file
 abbrev pub Contents : Type 0

@@ -3,6 +3,7 @@
 
 mod builder;
 mod connection;
+mod form;
 mod laws;
 mod plain;
 mod running;

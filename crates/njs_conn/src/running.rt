@@ -1,7 +1,8 @@
 // Runs a handler on its tree, as far as its nodes have a meaning yet.
 ghost use Rattle.std.specs.Prelude.{◌≡◌, IfOk};
 ghost use Rattle.std.specs.Option.{option_map};
-ghost use Rattle.njs_conn.specs.Meaning.{answer_of, body_of, call_of, callee_of, declared_by, effect_of, exported, expr_node, function_at, function_named, handled_by, handler_of, if_named, location_of, member, parameter, property, property_of, reply_of, request_member, returned, statement, stmt_node, value_of, value_of_name};
+ghost use Rattle.njs_conn.specs.Nodes.{expr_node, stmt_node};
+ghost use Rattle.njs_conn.specs.Meaning.{answer_of, body_of, call_of, callee_of, declared_by, effect_of, exported, function_at, function_named, handled_by, handler_of, if_named, location_of, member, parameter, property, property_of, reply_of, request_member, returned, statement, value_of, value_of_name};
 ghost use Rattle.njs_conn.specs.Running.{seen_reply, seen_value};
 ghost use Rattle.http_out.specs.Reply.{IsReply};
 

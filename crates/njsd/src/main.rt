@@ -5,6 +5,8 @@ ghost use Rattle.std.specs.Prelude.{◌≡◌, ◌<◌};
 
 mod run;
 #[cfg(test)]
+mod scripts;
+#[cfg(test)]
 mod tests;
 
 use njs_conn::write_whole;

@@ -7,13 +7,13 @@ ghost use Rattle.njs_edge.specs.Clock.{Reads};
 ghost use Rattle.conf_read.specs.Limits.{IsWithinLimits};
 ghost use Rattle.njsd.specs.Words.{call_conf, call_of};
 ghost use Rattle.njsd.specs.Runs.{AsksFor, IsFileFault, IsFileStop, LoadAs, LoadAsks, RunAs, status_of};
-ghost use Rattle.njsd.specs.Notes.{Notes, line_of, why_text};
+ghost use Rattle.njsd.specs.Notes.{Notes, kind_word, line_of, why_text};
 
 use conf_read::{Conf, Import, Location};
 use njs_conn::{ConnEnd, Loaded, ScriptWhy, SiteFault, build, load, serve_connection, write_whole};
 use njs_edge::{Clock, Files, Sink, Source};
 use njs_text::{List, NoMemory, Steps, Text};
-use njs_tree::is_name;
+use njs_tree::{EarlyKind, is_name};
 use std::alloc::Global;
 use std::sync::ledger::Ledger;
 
@@ -171,13 +171,38 @@ fn perform<F: Files, S: Source, K: Sink, N: Sink, L: Ledger>(
     }
 }
 
+fn kind_word(kind: EarlyKind) -> &'static str
+    ensures { result.now ≡ kind_word kind }
+{
+    match kind {
+        EarlyKind::Parameter => "parameter",
+        EarlyKind::Reserved => "reserved",
+        EarlyKind::Delete => "delete",
+        EarlyKind::Break => "break",
+        EarlyKind::Continue => "continue",
+        EarlyKind::Label => "label",
+        EarlyKind::Return => "return",
+        EarlyKind::Count => "count",
+    }
+}
+
+fn early_text(alloc: Global, kind: EarlyKind, line: u32) -> Result<String, NoMemory>
+    ensures { IfOk result (λ text. string_bytes text ≡ why_text (ScriptWhy.Early kind line)) }
+{
+    let kind = kind_word(kind);
+    Ok(format!(in alloc; "early {kind} line {line}")?)
+}
+
 fn why_text(alloc: Global, why: ScriptWhy) -> Result<String, NoMemory>
     ensures { IfOk result (λ text. string_bytes text ≡ why_text why) }
 {
     match why {
         ScriptWhy::NotUtf8(place) => Ok(format!(in alloc; "not utf-8 at {place}")?),
         ScriptWhy::TooLong => Ok(String::from_str(alloc, "too long")?),
+        ScriptWhy::TooDeep(line) => Ok(format!(in alloc; "too deep line {line}")?),
         ScriptWhy::Syntax(line) => Ok(format!(in alloc; "syntax line {line}")?),
+        ScriptWhy::Early(kind, line) => early_text(alloc, kind, line),
+        ScriptWhy::NotBuilt(line) => Ok(format!(in alloc; "not built line {line}")?),
     }
 }
 

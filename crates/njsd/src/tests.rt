@@ -51,7 +51,7 @@ struct Case {
     notes: &'static str,
 }
 
-const CASES: [Case; 21] = [
+const CASES: &[Case] = &[
     Case {
         words: &["call", "hello.js", "hello"],
         input: "GET / HTTP/1.1\r\nHost: a\r\n\r\n",
@@ -162,7 +162,42 @@ const CASES: [Case; 21] = [
         input: "GET / HTTP/1.1\r\nHost: a\r\n\r\n",
         status: 4,
         output: &[],
-        notes: "script x.js: syntax line 1\n",
+        notes: "script x.js: not built line 1\n",
+    },
+    Case {
+        words: &["call", "y.js", "h"],
+        input: "",
+        status: 4,
+        output: &[],
+        notes: "script y.js: not built line 1\n",
+    },
+    Case {
+        words: &["call", "other.js", "h"],
+        input: "",
+        status: 4,
+        output: &[],
+        notes: "script other.js: not built line 3\n",
+    },
+    Case {
+        words: &["call", "open.js", "h"],
+        input: "",
+        status: 4,
+        output: &[],
+        notes: "script open.js: syntax line 2\n",
+    },
+    Case {
+        words: &["call", "deep.js", "h"],
+        input: "",
+        status: 4,
+        output: &[],
+        notes: "script deep.js: too deep line 3\n",
+    },
+    Case {
+        words: &["call", "early.js", "h"],
+        input: "",
+        status: 4,
+        output: &[],
+        notes: "script early.js: early return line 2\n",
     },
     Case {
         words: &["call", "latin.js", "h"],
@@ -224,17 +259,37 @@ fn joined(alloc: Global, pieces: &[&str]) -> Result<Vec<u8>, NoMemory> {
     Ok(bytes)
 }
 
+/// 201 opening brackets, the last of them on the third line.
+const DEEP: &str = concat!(
+    "((((((((((((((((((((((((((((((((((((((((((((((((((",
+    "((((((((((((((((((((((((((((((((((((((((((((((((((",
+    "\n((((((((((((((((((((((((((((((((((((((((((((((((((",
+    "((((((((((((((((((((((((((((((((((((((((((((((((((\n(",
+);
+
+/// The scripts, by the names of their files.
+const SCRIPTS: &[(&str, &str)] = &[
+    ("hello.js", HELLO),
+    ("x.js", "1;"),
+    ("y.js", "var a;"),
+    (
+        "other.js",
+        "function h(r) {\n  r.return(\n    201, 'a');\n}\nexport default {h};",
+    ),
+    ("open.js", "var a;\nvar 1;"),
+    ("deep.js", DEEP),
+    ("early.js", "var eval_;\nreturn;\ndelete a;"),
+];
+
+// The scripts, and a file that isn't UTF-8.
 fn files(alloc: Global) -> Result<MapFiles, NoMemory> {
     let mut contents = Vec::new(alloc);
-    let hello = Vec::from_slice(alloc, HELLO.as_bytes())?;
-    contents.push((text(alloc, "hello.js")?, hello))?;
-    contents.push((text(alloc, "x.js")?, Vec::from_slice(alloc, b"1;")?))?;
-    contents.push((text(alloc, "latin.js")?, Vec::from_slice(alloc, b"v \xe9")?))?;
-    let mut long = Vec::from_slice(alloc, HELLO.as_bytes())?;
-    for _ in HELLO.len()..4097 {
-        long.push(b' ')?;
+    for (name, script) in SCRIPTS {
+        let bytes = Vec::from_slice(alloc, script.as_bytes())?;
+        contents.push((text(alloc, name)?, bytes))?;
     }
-    contents.push((text(alloc, "long.js")?, long))?;
+    let latin = Vec::from_slice(alloc, b"v \xe9")?;
+    contents.push((text(alloc, "latin.js")?, latin))?;
     Ok(MapFiles::new(alloc, contents, Vec::new(alloc)))
 }
 
@@ -250,16 +305,16 @@ fn outcome<L: Ledger>(
     alloc: Global,
     blank: Blank,
     words: &[Text],
+    mut files: MapFiles,
     mut source: BytesIn,
     mut sink: BytesOut,
     mut notes: BytesOut,
-) -> Result<RunResult, NoMemory>
+) -> RunResult
     requires name { blank.name ≡ L.name }
     requires parts { blank.parts ≡ L.parts }
     requires some { 0 < L.parts }
 {
     let mut steps = Steps::<L>::new(blank);
-    let mut files = files(alloc)?;
     let mut clock = ListClock::new(&[]);
     let status = run(
         alloc,
@@ -271,11 +326,11 @@ fn outcome<L: Ledger>(
         &mut notes,
         &mut steps,
     );
-    Ok(RunResult {
+    RunResult {
         status: code(&status),
         sink,
         notes,
-    })
+    }
 }
 
 fn source(alloc: Global, input: &[u8], most: usize, fails: &[u64]) -> Result<BytesIn, NoMemory>
@@ -296,13 +351,21 @@ fn sink(alloc: Global, most: usize, fails: &[u64]) -> Result<BytesOut, NoMemory>
 #[test]
 fn each_case_has_its_answer_in_pieces_of_any_length(rt: HostRuntime) -> Result<(), Fail> {
     let alloc = rt.alloc();
-    for case in &CASES {
+    for case in CASES {
         for most in [1usize, 7, 4096] {
             let words = list(alloc, case.words)?;
             let input = source(alloc, case.input.as_bytes(), most, &[])?;
             let output = sink(alloc, most, &[])?;
             let notes = sink(alloc, most, &[])?;
-            let outcome = outcome::<Brand>(alloc, Blank::new(1), &words, input, output, notes)?;
+            let outcome = outcome::<Brand>(
+                alloc,
+                Blank::new(1),
+                &words,
+                files(alloc)?,
+                input,
+                output,
+                notes,
+            );
             assert_eq!(rt; outcome.status, case.status);
             assert_eq!(rt;
                 outcome.sink.bytes(),
@@ -314,19 +377,33 @@ fn each_case_has_its_answer_in_pieces_of_any_length(rt: HostRuntime) -> Result<(
     Ok(())
 }
 
+// A file of one script, with blanks behind it up to so many bytes.
+fn padded(alloc: Global, size: usize) -> Result<MapFiles, NoMemory> {
+    let mut long = Vec::from_slice(alloc, HELLO.as_bytes())?;
+    for _ in HELLO.len()..size {
+        long.push(b' ')?;
+    }
+    let mut contents = Vec::new(alloc);
+    contents.push((text(alloc, "long.js")?, long))?;
+    Ok(MapFiles::new(alloc, contents, Vec::new(alloc)))
+}
+
 #[test]
-fn a_script_of_4097_bytes_is_too_long(rt: HostRuntime) -> Result<(), Fail> {
+fn a_script_has_at_most_1048576_bytes(rt: HostRuntime) -> Result<(), Fail> {
     let alloc = rt.alloc();
     let words = list(alloc, &["call", "long.js", "hello"])?;
-    let input = source(alloc, GET.as_bytes(), 7, &[])?;
-    let output = sink(alloc, 7, &[])?;
-    let notes = sink(alloc, 7, &[])?;
-    let outcome = outcome::<Brand>(alloc, Blank::new(1), &words, input, output, notes)?;
-    assert_eq!(rt; outcome.status, 4);
-    assert_eq!(rt;
-        outcome.notes.bytes(),
-        b"script long.js: too long\n".as_slice()
-    );
+    for (size, status, note) in [
+        (1_048_576usize, 0u8, ""),
+        (1_048_577, 4, "script long.js: too long\n"),
+    ] {
+        let input = source(alloc, b"", 7, &[])?;
+        let output = sink(alloc, 7, &[])?;
+        let notes = sink(alloc, 7, &[])?;
+        let files = padded(alloc, size)?;
+        let outcome = outcome::<Brand>(alloc, Blank::new(1), &words, files, input, output, notes);
+        assert_eq!(rt; outcome.status, status);
+        assert_eq!(rt; outcome.notes.bytes(), note.as_bytes());
+    }
     Ok(())
 }
 
@@ -346,7 +423,15 @@ fn the_thousandth_request_closes(rt: HostRuntime) -> Result<(), Fail> {
     let input = source(alloc, &requests, 4096, &[])?;
     let output = sink(alloc, 4096, &[])?;
     let notes = sink(alloc, 4096, &[])?;
-    let outcome = outcome::<Brand>(alloc, Blank::new(1), &words, input, output, notes)?;
+    let outcome = outcome::<Brand>(
+        alloc,
+        Blank::new(1),
+        &words,
+        files(alloc)?,
+        input,
+        output,
+        notes,
+    );
     assert_eq!(rt; outcome.status, 0);
     assert_eq!(rt; outcome.sink.bytes(), answers.as_slice());
     Ok(())
@@ -368,7 +453,15 @@ fn a_read_that_fails_at_any_number_is_a_read_fault(rt: HostRuntime) -> Result<()
         let input = source(alloc, GET.as_bytes(), 7, &[number])?;
         let output = sink(alloc, 4096, &[])?;
         let notes = sink(alloc, 4096, &[])?;
-        let outcome = outcome::<Brand>(alloc, Blank::new(1), &words, input, output, notes)?;
+        let outcome = outcome::<Brand>(
+            alloc,
+            Blank::new(1),
+            &words,
+            files(alloc)?,
+            input,
+            output,
+            notes,
+        );
         assert_eq!(rt; outcome.status, status);
         assert_eq!(rt; outcome.sink.bytes(), answer.as_bytes());
         let note = if status == 0 { "" } else { "read fault\n" };
@@ -386,7 +479,15 @@ fn a_write_that_fails_at_any_number_is_a_write_fault(rt: HostRuntime) -> Result<
         let input = source(alloc, GET.as_bytes(), 4096, &[])?;
         let output = sink(alloc, 10, &[number])?;
         let notes = sink(alloc, 4096, &[])?;
-        let outcome = outcome::<Brand>(alloc, Blank::new(1), &words, input, output, notes)?;
+        let outcome = outcome::<Brand>(
+            alloc,
+            Blank::new(1),
+            &words,
+            files(alloc)?,
+            input,
+            output,
+            notes,
+        );
         let got = (10 * (number as usize - 1)).min(101);
         assert_eq!(rt; outcome.status, if number < 13 { 8 } else { 0 });
         assert_eq!(rt; outcome.sink.bytes(), &OK.as_bytes()[..got]);
@@ -403,7 +504,15 @@ fn notes_that_fail_change_no_status(rt: HostRuntime) -> Result<(), Fail> {
     let input = source(alloc, b"", 7, &[])?;
     let output = sink(alloc, 7, &[])?;
     let notes = sink(alloc, 9, &[2])?;
-    let outcome = outcome::<Brand>(alloc, Blank::new(1), &words, input, output, notes)?;
+    let outcome = outcome::<Brand>(
+        alloc,
+        Blank::new(1),
+        &words,
+        files(alloc)?,
+        input,
+        output,
+        notes,
+    );
     assert_eq!(rt; outcome.status, 5);
     assert_eq!(rt; outcome.notes.bytes(), b"file none".as_slice());
     Ok(())

@@ -1,5 +1,5 @@
 use Rattle.std.proofs.Common.{subst, Err, Ok}
-use Rattle.njs_conn.specs.Site.{ScriptFrom}
+use Rattle.njs_conn.specs.Scripts.{ScriptFrom}
 use Rattle.njs_conn.proofs.Building.{accepting_next, all_accepted, left_at, none_left, stops_here}
 use Rattle.njs_conn.proofs.builder.trees_of.Goals as goal
 

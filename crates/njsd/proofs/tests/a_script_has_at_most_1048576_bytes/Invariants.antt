@@ -1,4 +1,4 @@
-use Rattle.njsd.proofs.tests.a_script_of_4097_bytes_is_too_long.Given as goal
+use Rattle.njsd.proofs.tests.a_script_has_at_most_1048576_bytes.Given as goal
 
 -- the counter's own ledger
 abbrev pub ghosts-outcome : goal.ghosts-outcome
