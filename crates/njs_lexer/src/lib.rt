@@ -2,10 +2,11 @@
 #![tactic(auto)]
 
 mod blanks;
+pub mod escapes;
 mod lexer;
 mod marks;
 mod numbers;
-mod rest;
+pub mod rest;
 mod strings;
 #[cfg(test)]
 mod tests;

@@ -1,4 +1,4 @@
-// A text from its front: the first scalar value, and what follows.
+//! A text from its front: the first scalar value, and what follows.
 ghost use Rattle.std.specs.Prelude.{◌≡◌, ◌==◌, drop, slice_get};
 ghost use Rattle.std.specs.Str.{chars};
 ghost use Rattle.njs_tree.specs.Characters.{begins};
@@ -27,6 +27,7 @@ fn passes(kind: Run, c: char) -> bool
     }
 }
 
+/// The first scalar value, if there is one.
 pub fn first(text: &str) -> Option<char>
     ensures { result ≡ slice_get (chars text.now) 0 }
 {
@@ -42,6 +43,18 @@ pub fn behind(text: &str) -> &str
     rest.as_str()
 }
 
+/// What follows so many scalar values.
+pub fn past(text: &str, count: usize) -> &str
+    ensures { chars result.now ≡ drop count (chars text.now) }
+{
+    let mut rest = text;
+    for _ in 0..count {
+        rest = behind(rest);
+    }
+    rest
+}
+
+/// Whether the first scalar value is of a kind.
 pub fn begins(kind: Run, text: &str) -> bool
     ensures { result ≡ begins (test_of kind) (chars text.now) }
 {
@@ -51,6 +64,7 @@ pub fn begins(kind: Run, text: &str) -> bool
     }
 }
 
+/// Whether the first scalar value is this one.
 pub fn begins_with(expected: char, text: &str) -> bool
     ensures { result ≡ begins (λ c. c == expected) (chars text.now) }
 {

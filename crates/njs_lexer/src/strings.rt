@@ -1,67 +1,12 @@
 // Strings.
-ghost use Rattle.std.specs.Prelude.{◌≡◌, ◌<◌, drop, ℕ, Option, None, Some, Err, IfOk, IfErr, IfSome};
+ghost use Rattle.std.specs.Prelude.{◌≡◌, drop, ℕ, Option, None, Some, Err, IfOk, IfErr};
 ghost use Rattle.std.specs.Str.{chars, IsUtf8};
-ghost use Rattle.std.specs.Char.Utf16.{is_high_surrogate, is_low_surrogate};
 ghost use Rattle.njs_tree.specs.Lexical.{hex_value, second_unit, unit_escape, hex_escape, escape_at, string_from};
-ghost use Rattle.njs_lexer.specs.Steps.{length_of, pair_length, plain_length, escape_fault, inside_length, EndsString};
+ghost use Rattle.njs_lexer.specs.Steps.{length_of, pair_length, escape_fault, inside_length, EndsString};
 
-use crate::numbers::digit;
-use crate::rest::{Run, begins, begins_with, behind, first};
+use crate::escapes::{hex_pair, hex_unit, is_high, is_low, plain_len, second_unit};
+use crate::rest::{Run, begins, behind, first, past};
 use njs_tree::{LexFault, is_line_end};
-
-// What follows so many characters.
-fn past(text: &str, count: usize) -> &str
-    ensures { chars result.now ≡ drop count (chars text.now) }
-{
-    let mut rest = text;
-    for _ in 0..count {
-        rest = behind(rest);
-    }
-    rest
-}
-
-// The value of two hexadecimal digits.
-fn hex_pair(text: &str) -> Option<u32>
-    ensures value { result ≡ hex_value 2 (chars text.now) }
-    ensures small { IfSome result (λ v. v < 256) }
-{
-    let high = digit(text, 16)?;
-    let low = digit(behind(text), 16)?;
-    Some(high * 16 + low)
-}
-
-// The value of four hexadecimal digits.
-fn hex_unit(text: &str) -> Option<u32>
-    ensures { result ≡ hex_value 4 (chars text.now) }
-{
-    let high = hex_pair(text)?;
-    let low = hex_pair(past(text, 2))?;
-    Some(high * 256 + low)
-}
-
-fn is_high(unit: u32) -> bool
-    ensures { result ≡ is_high_surrogate unit }
-{
-    matches!(unit, 0xD800..=0xDBFF)
-}
-
-fn is_low(unit: u32) -> bool
-    ensures { result ≡ is_low_surrogate unit }
-{
-    matches!(unit, 0xDC00..=0xDFFF)
-}
-
-// The second unit of a pair: `\u` and four digits.
-fn second_unit(text: &str) -> Option<u32>
-    ensures { result ≡ second_unit (chars text.now) }
-{
-    let after = behind(text);
-    if begins_with('\\', text) && begins_with('u', after) {
-        hex_unit(behind(after))
-    } else {
-        None
-    }
-}
 
 // The length of the rest of an escape that begins with a high surrogate.
 fn pair_len(text: &str) -> Option<usize>
@@ -91,17 +36,6 @@ fn hex_len(text: &str) -> Option<usize>
 {
     hex_pair(text)?;
     Some(3)
-}
-
-// The length of an escape that stands for a line end, or for one character.
-fn plain_len(c: char, after: &str) -> usize
-    ensures { result ≡ plain_length c (chars after.now) }
-{
-    if c == '\r' && begins_with('\n', after) {
-        2
-    } else {
-        1
-    }
 }
 
 // The length of the escape without its backslash.

@@ -1,10 +1,12 @@
--- A name is ASCII, so its characters are its bytes.
-use Rattle.std.proofs.Common.{◌≡◌, ℕ, ◌+◌, ◌/◌, ◌<◌, ◌≤◌, List, [], ◌∷◌, ◌++◌, Bool, true, false, cond, not, ◌&&◌, ◌||◌, nat_lt, ◌⊎◌, inl, inr, refl, ap, sym, ◌∙◌, arith, codes, bytes_eq}
+-- A word is ASCII, so whether a text is one can be told of its bytes.
+use Rattle.std.proofs.Common.{◌≡◌, ℕ, ◌+◌, ◌/◌, ◌<◌, ◌≤◌, List, [], ◌∷◌, ◌++◌, Bool, true, false, cond, nat_lt, ◌⊎◌, inl, inr, refl, arith}
 use Rattle.std.proofs.lemmas.Bool.Decides.{nat_tests}
+use Rattle.std.proofs.lemmas.Str.{chars-encodes}
 use Rattle.std.specs.List.{list_all}
+use Rattle.std.specs.Str.{chars, all_scalars, encode_utf8_all}
 use lib.Utf8.{encode, encodes, next}
 use Rattle.njs_tree.specs.Characters.{is_letter, is_part, begins}
-use Rattle.njs_tree.specs.Names.{is_word, is_reserved, is_name}
+use Rattle.njs_tree.specs.Names.{is_word}
 
 letter_low : (c : ℕ) → 128 ≤ c → is_letter c ≡ false
 letter_low c h = grind (arith, nat_tests)
@@ -51,32 +53,9 @@ all_same : (text : List ℕ) → list_all is_part (encodes text) ≡ list_all is
 all_same [] = refl
 all_same (c ∷ s) = elim (low_or_high c) [ inl h ↦ rw (low c h, all_same s) | inr h ↦ all_high c (encodes s) s (encode c) h (high c h) ]
 
-word_same : (text : List ℕ) → is_word (encodes text) ≡ is_word text
+pub word_same : (text : List ℕ) → is_word (encodes text) ≡ is_word text
 word_same text = rw (begins_same text, all_same text)
 
-never : true ≡ false → ⊥
-never e = cc
-
-both : (a b : Bool) → (a && b) ≡ true → (a ≡ true) × (b ≡ true)
-both true true e = (refl, refl)
-both true false e = (refl, e)
-both false b e = absurd (cc)
-
--- a text of letters and digits is its bytes
-parts_same : (text : List ℕ) → list_all is_part text ≡ true → encodes text ≡ text
-parts_same [] e = refl
-parts_same (c ∷ s) e =
-    let h = both (is_part c) (list_all is_part s) e in
-    elim (low_or_high c) [ inl l ↦ rw (low c l, parts_same s h.1) | inr k ↦ absurd (never (sym h.0 ∙ part_low c k)) ]
-
-guarded : (w : Bool) (f : List ℕ → Bool) (a b : List ℕ) → (w ≡ true → a ≡ b) → (w && f a) ≡ (w && f b)
-guarded true f a b h = ap f (h refl)
-guarded false f a b h = refl
-
--- what is asked of a word alone
-word_test : (f : List ℕ → Bool) (text : List ℕ) → (is_word (encodes text) && f (encodes text)) ≡ (is_word text && f text)
-word_test f text =
-    ap (λ w. w && f (encodes text)) (word_same text) ∙ guarded (is_word text) f (encodes text) text (λ e. parts_same text (both (begins is_letter text) (list_all is_part text) e).1)
-
-pub name_same : (text : List ℕ) → is_name (encodes text) ≡ is_name text
-name_same text = word_test (λ t. not (is_reserved t)) text
+-- a text's UTF-8 has its characters
+pub chars_same : (text : List ℕ) → all_scalars text ≡ true → chars (encode_utf8_all text) ≡ text
+chars_same text scalars = chars-encodes text scalars

@@ -1,5 +1,5 @@
 -- Small examples of the definitions of tokens, grammar and early refusals.
-use Rattle.std.proofs.Common.{◌≡◌, ℕ, ◌++◌, true, false, List, [], ◌∷◌, Some, None, codes, pos, map, refl, arith}
+use Rattle.std.proofs.Common.{◌≡◌, ℕ, ◌++◌, true, false, List, [], ◌∷◌, Some, None, codes, pos, refl, arith}
 use Rattle.njs_tree.specs.declared.token.Mark.TheVariants as mark
 use Rattle.njs_tree.specs.declared.token.Keyword.TheVariants as keyword
 use Rattle.njs_tree.specs.declared.token.LexFault.TheVariants as fault
@@ -11,17 +11,11 @@ use Rattle.njs_tree.specs.declared.tree.Expr.{Expr, roll-Expr, the_lemmas}
 use Rattle.njs_tree.specs.declared.tree.ExprNode.{ExprNode}
 use Rattle.njs_tree.specs.declared.tree.UnaryOp.TheVariants as unary
 use Rattle.njs_tree.specs.Early.{early, seen, of_stmt}
-use Rattle.njs_tree.specs.Names.{reserved}
-use Rattle.njs_tree.specs.Lexemes.{Lexeme, Symbol, keywords, keyword_text, keyword_of, marks, mark_of}
+use Rattle.njs_tree.specs.Lexemes.{Lexeme, Symbol, keywords, keyword_of, marks, mark_of}
 use Rattle.njs_tree.specs.Lexical.{lexeme_at, fault_at, blank_length}
 use Rattle.njs_tree.specs.TokenList.{string_value}
 use Rattle.njs_tree.specs.Symbols.{lexeme_of, breaks, may_miss, var_goes_on}
 use Rattle.njs_tree.specs.Grammar.{at, stands, Spells, Declares, Ends, Stands, IsItem, Items}
-
--- the two lists of reserved words are one
-same_words : map keyword_text keywords ≡ reserved
-unfolding keywords reserved
-same_words = refl
 
 -- ---- tokens
 

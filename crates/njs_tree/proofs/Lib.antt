@@ -1,2 +1,3 @@
 pub mod Ascii
+mod Spelling
 mod Examples

@@ -1,19 +1,16 @@
 -- Words, and those that are names.
-use Rattle.std.specs.Prelude.{ℕ, List, [], ◌∷◌, Bool, ◌&&◌, ◌||◌, not, bytes_eq, codes}
-use Rattle.std.specs.List.{list_all, list_any}
+use Rattle.std.specs.Prelude.{ℕ, List, Bool, ◌&&◌, ◌||◌, not, is_some, bytes_eq, codes}
+use Rattle.std.specs.List.{list_all}
 use Rattle.njs_tree.specs.Characters.{is_letter, is_part, begins}
+use Rattle.njs_tree.specs.Lexemes.{keyword_of}
 
 -- a letter, and then letters and digits
 abbrev pub is_word : List ℕ → Bool
 is_word text = begins is_letter text && list_all is_part text
 
--- the words of ECMA-262 5.1 §7.6.1, those of strict mode among them
-unfoldable pub reserved : List (List ℕ)
-reserved =
-    codes "break" ∷ codes "case" ∷ codes "catch" ∷ codes "class" ∷ codes "const" ∷ codes "continue" ∷ codes "debugger" ∷ codes "default" ∷ codes "delete" ∷ codes "do" ∷ codes "else" ∷ codes "enum" ∷ codes "export" ∷ codes "extends" ∷ codes "finally" ∷ codes "for" ∷ codes "function" ∷ codes "if" ∷ codes "implements" ∷ codes "import" ∷ codes "in" ∷ codes "instanceof" ∷ codes "interface" ∷ codes "let" ∷ codes "new" ∷ codes "package" ∷ codes "private" ∷ codes "protected" ∷ codes "public" ∷ codes "return" ∷ codes "static" ∷ codes "super" ∷ codes "switch" ∷ codes "this" ∷ codes "throw" ∷ codes "try" ∷ codes "typeof" ∷ codes "var" ∷ codes "void" ∷ codes "while" ∷ codes "with" ∷ codes "yield" ∷ codes "null" ∷ codes "true" ∷ codes "false" ∷ []
-
+-- a word of ECMA-262 5.1 §7.6.1, those of strict mode among them
 abbrev pub is_reserved : List ℕ → Bool
-is_reserved text = list_any (bytes_eq text) reserved
+is_reserved text = is_some (keyword_of text)
 
 -- a word that isn't reserved
 abbrev pub is_name : List ℕ → Bool

@@ -3,6 +3,7 @@
 
 mod characters;
 mod checked;
+mod keywords;
 mod names;
 #[cfg(test)]
 mod tests;
@@ -11,6 +12,7 @@ mod tree;
 
 pub use characters::{is_letter, is_line_end, is_part, is_white};
 pub use checked::Checked;
+pub use keywords::keyword_of;
 pub use names::is_name;
 pub use token::{EarlyFault, EarlyKind, Joint, Keyword, Kind, LexFault, Mark, Token};
 pub use tree::{
