@@ -44,7 +44,7 @@ impl<
         line: u32,
         test: (Expr, usize),
         chosen: (Boxed<Stmt>, usize),
-    ) -> Result<(Stmt, usize), ParseStop>
+    ) -> Result<(Boxed<Stmt>, usize), ParseStop>
         requires expr { ReadsExpr T.stands self.now.fuel (F.pre self.now.expr) (F.post self.now.expr) }
         requires stmt { ReadsStmt S.stands self.now.fuel (G.pre self.now.stmt) (G.post self.now.stmt) }
         ensures { Reads (spec.else_by (expr self.now.fuel) (stmt self.now.fuel) room line test chosen cursor.old) result cursor.new }
@@ -58,6 +58,7 @@ impl<
             other: Some(other),
         };
         stood(
+            self.alloc,
             cursor,
             room,
             line,
@@ -73,7 +74,7 @@ impl<
         cursor: &mut Cursor<'_>,
         room: usize,
         line: u32,
-    ) -> Result<(Stmt, usize), ParseStop>
+    ) -> Result<(Boxed<Stmt>, usize), ParseStop>
         requires expr { ReadsExpr T.stands self.now.fuel (F.pre self.now.expr) (F.post self.now.expr) }
         requires stmt { ReadsStmt S.stands self.now.fuel (G.pre self.now.stmt) (G.post self.now.stmt) }
         ensures { Reads (spec.if_by (expr self.now.fuel) (stmt self.now.fuel) room line cursor.old) result cursor.new }
@@ -90,7 +91,14 @@ impl<
             then: chosen,
             other: None,
         };
-        stood(cursor, room, line, node, test_depth.max(chosen_depth))
+        stood(
+            self.alloc,
+            cursor,
+            room,
+            line,
+            node,
+            test_depth.max(chosen_depth),
+        )
     }
 
     #[tactic(auto, unfolding(crate::specs::Statements::tested))]
@@ -182,12 +190,13 @@ impl<
     }
 
     #[tactic(auto, unfolding(crate::specs::Statements::switch_by))]
+    #[inline(never)]
     pub fn switch_by(
         &self,
         cursor: &mut Cursor<'_>,
         room: usize,
         line: u32,
-    ) -> Result<(Stmt, usize), ParseStop>
+    ) -> Result<(Boxed<Stmt>, usize), ParseStop>
         requires expr { ReadsExpr T.stands self.now.fuel (F.pre self.now.expr) (F.post self.now.expr) }
         requires stmt { ReadsStmt S.stands self.now.fuel (G.pre self.now.stmt) (G.post self.now.stmt) }
         ensures { Reads (spec.switch_by (expr self.now.fuel) (stmt self.now.fuel) room line cursor.old) result cursor.new }
@@ -196,6 +205,7 @@ impl<
         cursor.expect(Mark::LeftBrace)?;
         let (cases, depth) = self.cases(cursor, room)?;
         stood(
+            self.alloc,
             cursor,
             room,
             line,

@@ -11,7 +11,7 @@ use crate::nodes::stood;
 use crate::trees::{ExprTree, StmtTree};
 use njs_text::Text;
 use njs_tree::{Expr, Mark, Stmt, StmtNode};
-use sqlite_items::Items;
+use sqlite_items::{Boxed, Items};
 use std::alloc::Global;
 use std::marker::PhantomData;
 
@@ -108,33 +108,49 @@ impl<
     }
 
     #[tactic(auto, unfolding(crate::specs::Statements::var_by))]
+    #[inline(never)]
     pub fn var_by(
         &self,
         cursor: &mut Cursor<'_>,
         room: usize,
         line: u32,
-    ) -> Result<(Stmt, usize), ParseStop>
+    ) -> Result<(Boxed<Stmt>, usize), ParseStop>
         requires expr { ReadsExpr T.stands self.now.fuel (F.pre self.now.expr) (F.post self.now.expr) }
         ensures { Reads (spec.var_by (expr self.now.fuel) room line cursor.old) result cursor.new }
     {
         let (variables, depth) = self.declarators(cursor, true, room.saturating_sub(1))?;
         cursor.semicolon()?;
-        stood(cursor, room, line, StmtNode::Var(variables), depth)
+        stood(
+            self.alloc,
+            cursor,
+            room,
+            line,
+            StmtNode::Var(variables),
+            depth,
+        )
     }
 
     #[tactic(auto, unfolding(crate::specs::Statements::declaration_by))]
+    #[inline(never)]
     fn declaration_by(
         &self,
         cursor: &mut Cursor<'_>,
         room: usize,
         line: u32,
-    ) -> Result<(Stmt, usize), ParseStop>
+    ) -> Result<(Boxed<Stmt>, usize), ParseStop>
         requires stmt { ReadsStmt S.stands self.now.fuel (G.pre self.now.stmt) (G.post self.now.stmt) }
         ensures { Reads (spec.declaration_by (stmt self.now.fuel) room line cursor.old) result cursor.new }
     {
         let name = cursor.name(self.alloc)?;
         let (function, depth) = self.function(cursor, room, Some(name))?;
-        stood(cursor, room, line, StmtNode::FunctionDecl(function), depth)
+        stood(
+            self.alloc,
+            cursor,
+            room,
+            line,
+            StmtNode::FunctionDecl(function),
+            depth,
+        )
     }
 
     #[tactic(auto, unfolding(crate::specs::Statements::function_by))]
@@ -144,7 +160,7 @@ impl<
         declares: bool,
         room: usize,
         line: u32,
-    ) -> Result<(Stmt, usize), ParseStop>
+    ) -> Result<(Boxed<Stmt>, usize), ParseStop>
         requires stmt { ReadsStmt S.stands self.now.fuel (G.pre self.now.stmt) (G.post self.now.stmt) }
         ensures { Reads (spec.function_by (expr self.now.fuel) (stmt self.now.fuel) declares room line cursor.old) result cursor.new }
     {

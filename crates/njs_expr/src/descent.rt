@@ -7,6 +7,7 @@ use crate::cursor::Cursor;
 use crate::grammar::Grammar;
 use crate::trees::{ExprTree, StmtTree, expression_from, statement_from};
 use njs_tree::{Expr, Stmt};
+use sqlite_items::Boxed;
 use std::alloc::Global;
 use std::marker::PhantomData;
 
@@ -71,7 +72,7 @@ pub fn read_expression(
 ) -> Result<(Expr, usize), ParseStop>
     ensures { Reads (spec.expr fuel with_in least room cursor.old) result cursor.new }
 {
-    expr::<Expr, Stmt>(PhantomData, alloc, cursor, fuel, with_in, least, room)
+    expr::<Expr, Boxed<Stmt>>(PhantomData, alloc, cursor, fuel, with_in, least, room)
 }
 
 /// A statement of a depth of at most `room`, or where `declares` holds the declaration of a function.
@@ -81,8 +82,8 @@ pub fn read_statement(
     fuel: usize,
     declares: bool,
     room: usize,
-) -> Result<(Stmt, usize), ParseStop>
+) -> Result<(Boxed<Stmt>, usize), ParseStop>
     ensures { Reads (spec.stmt fuel declares room cursor.old) result cursor.new }
 {
-    stmt::<Expr, Stmt>(PhantomData, alloc, cursor, fuel, declares, room)
+    stmt::<Expr, Boxed<Stmt>>(PhantomData, alloc, cursor, fuel, declares, room)
 }

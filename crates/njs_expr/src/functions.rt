@@ -92,7 +92,7 @@ impl<
                 return Ok((found, below));
             }
             let (item, depth) = self.nested_statement(cursor, declares, room.saturating_sub(1))?;
-            found.push(item)?;
+            found.push(item.into_inner())?;
             below = below.max(depth);
         }
         Ok((found, below))

@@ -1,7 +1,7 @@
 //! The rules take the readers of nested expressions and statements as function values, so that each is proved by itself.
 //!
 //! A rule that holds trees while it reads others is never inlined, so that a level of nesting costs the stack of just those rules
-//! that it passes.
+//! that it passes. Statements, and what the head of a `for` holds, are in boxes meanwhile.
 ghost use Rattle.njs_expr.specs.Descent.{expr, stmt};
 ghost use Rattle.njs_expr.specs.Reads.{Reads, ReadsExpr, ReadsStmt};
 
@@ -9,6 +9,7 @@ use crate::ParseStop;
 use crate::cursor::Cursor;
 use crate::trees::{ExprTree, StmtTree};
 use njs_tree::{Expr, Stmt};
+use sqlite_items::Boxed;
 use std::alloc::Global;
 use std::marker::PhantomData;
 
@@ -74,7 +75,7 @@ impl<
         cursor: &mut Cursor<'_>,
         declares: bool,
         room: usize,
-    ) -> Result<(Stmt, usize), ParseStop>
+    ) -> Result<(Boxed<Stmt>, usize), ParseStop>
         requires stmt { ReadsStmt S.stands self.now.fuel (G.pre self.now.stmt) (G.post self.now.stmt) }
         ensures { Reads (stmt self.now.fuel declares room cursor.old) result cursor.new }
     {

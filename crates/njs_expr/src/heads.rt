@@ -35,7 +35,6 @@ impl<
     ) -> Result<(S, usize), ParseStop>,
 > Grammar<T, S, F, G> {
     /// A statement in a statement.
-    #[inline(never)]
     pub fn body(
         &self,
         cursor: &mut Cursor<'_>,
@@ -44,8 +43,7 @@ impl<
         requires stmt { ReadsStmt S.stands self.now.fuel (G.pre self.now.stmt) (G.post self.now.stmt) }
         ensures { Reads (stmt self.now.fuel false room cursor.old) result cursor.new }
     {
-        let (body, depth) = self.nested_statement(cursor, false, room)?;
-        Ok((Boxed::new(self.alloc, body)?, depth))
+        self.nested_statement(cursor, false, room)
     }
 
     /// An expression in parentheses.
@@ -61,18 +59,32 @@ impl<
         Ok(value)
     }
 
-    #[tactic(auto, unfolding(crate::specs::Statements::given))]
+    /// A nested expression in a box, made in a frame of its own, which no nested statement waits on.
     #[inline(never)]
+    pub fn boxed(
+        &self,
+        cursor: &mut Cursor<'_>,
+        with_in: bool,
+        room: usize,
+    ) -> Result<(Boxed<Expr>, usize), ParseStop>
+        requires expr { ReadsExpr T.stands self.now.fuel (F.pre self.now.expr) (F.post self.now.expr) }
+        ensures { Reads (expr self.now.fuel with_in 1 room cursor.old) result cursor.new }
+    {
+        let (value, depth) = self.nested(cursor, with_in, 1, room)?;
+        Ok((Boxed::new(self.alloc, value)?, depth))
+    }
+
+    #[tactic(auto, unfolding(crate::specs::Statements::given))]
     fn given(
         &self,
         cursor: &mut Cursor<'_>,
         room: usize,
         mark: Mark,
-    ) -> Result<(Option<Expr>, usize), ParseStop>
+    ) -> Result<(Option<Boxed<Expr>>, usize), ParseStop>
         requires expr { ReadsExpr T.stands self.now.fuel (F.pre self.now.expr) (F.post self.now.expr) }
         ensures { Reads (spec.given (expr self.now.fuel) room mark cursor.old) result cursor.new }
     {
-        let (value, depth) = self.nested(cursor, true, 1, room)?;
+        let (value, depth) = self.boxed(cursor, true, room)?;
         cursor.expect(mark)?;
         Ok((Some(value), depth))
     }
@@ -84,7 +96,7 @@ impl<
         cursor: &mut Cursor<'_>,
         room: usize,
         mark: Mark,
-    ) -> Result<(Option<Expr>, usize), ParseStop>
+    ) -> Result<(Option<Boxed<Expr>>, usize), ParseStop>
         requires expr { ReadsExpr T.stands self.now.fuel (F.pre self.now.expr) (F.post self.now.expr) }
         ensures { Reads (spec.optional (expr self.now.fuel) room mark cursor.old) result cursor.new }
     {

@@ -12,6 +12,7 @@ use crate::trees::{ExprTree, StmtTree};
 use crate::{ParseStop, Terminal};
 use njs_text::Text;
 use njs_tree::{Expr, Mark, Stmt, StmtNode};
+use sqlite_items::Boxed;
 use std::alloc::Global;
 use std::marker::PhantomData;
 
@@ -32,31 +33,33 @@ fn optional_label(alloc: Global, cursor: &mut Cursor<'_>) -> Result<Option<Text>
 }
 
 #[tactic(auto, unfolding(crate::specs::Statements::continue_by))]
+#[inline(never)]
 pub fn continue_by(
     alloc: Global,
     cursor: &mut Cursor<'_>,
     room: usize,
     line: u32,
-) -> Result<(Stmt, usize), ParseStop>
+) -> Result<(Boxed<Stmt>, usize), ParseStop>
     ensures { Reads (spec.continue_by room line cursor.old) result cursor.new }
 {
     let label = optional_label(alloc, cursor)?;
     cursor.semicolon()?;
-    stood(cursor, room, line, StmtNode::Continue(label), 0)
+    stood(alloc, cursor, room, line, StmtNode::Continue(label), 0)
 }
 
 #[tactic(auto, unfolding(crate::specs::Statements::break_by))]
+#[inline(never)]
 pub fn break_by(
     alloc: Global,
     cursor: &mut Cursor<'_>,
     room: usize,
     line: u32,
-) -> Result<(Stmt, usize), ParseStop>
+) -> Result<(Boxed<Stmt>, usize), ParseStop>
     ensures { Reads (spec.break_by room line cursor.old) result cursor.new }
 {
     let label = optional_label(alloc, cursor)?;
     cursor.semicolon()?;
-    stood(cursor, room, line, StmtNode::Break(label), 0)
+    stood(alloc, cursor, room, line, StmtNode::Break(label), 0)
 }
 
 /// Whether a statement ends here.
@@ -96,26 +99,27 @@ impl<
         cursor: &mut Cursor<'_>,
         room: usize,
         line: u32,
-    ) -> Result<(Stmt, usize), ParseStop>
+    ) -> Result<(Boxed<Stmt>, usize), ParseStop>
         requires expr { ReadsExpr T.stands self.now.fuel (F.pre self.now.expr) (F.post self.now.expr) }
         ensures { Reads (spec.expr_by (expr self.now.fuel) room line cursor.old) result cursor.new }
     {
         let (value, depth) = self.nested(cursor, true, 1, room.saturating_sub(1))?;
         cursor.semicolon()?;
-        stood(cursor, room, line, StmtNode::Expr(value), depth)
+        stood(self.alloc, cursor, room, line, StmtNode::Expr(value), depth)
     }
 
     #[tactic(auto, unfolding(crate::specs::Statements::returned))]
+    #[inline(never)]
     fn returned(
         &self,
         cursor: &mut Cursor<'_>,
         room: usize,
         line: u32,
-    ) -> Result<(Stmt, usize), ParseStop>
+    ) -> Result<(Boxed<Stmt>, usize), ParseStop>
         ensures { Reads (spec.returned (expr self.now.fuel) room line cursor.old) result cursor.new }
     {
         cursor.semicolon()?;
-        stood(cursor, room, line, StmtNode::Return(None), 0)
+        stood(self.alloc, cursor, room, line, StmtNode::Return(None), 0)
     }
 
     #[tactic(auto, unfolding(crate::specs::Statements::returned_value))]
@@ -125,13 +129,20 @@ impl<
         cursor: &mut Cursor<'_>,
         room: usize,
         line: u32,
-    ) -> Result<(Stmt, usize), ParseStop>
+    ) -> Result<(Boxed<Stmt>, usize), ParseStop>
         requires expr { ReadsExpr T.stands self.now.fuel (F.pre self.now.expr) (F.post self.now.expr) }
         ensures { Reads (spec.returned_value (expr self.now.fuel) room line cursor.old) result cursor.new }
     {
         let (value, depth) = self.nested(cursor, true, 1, room.saturating_sub(1))?;
         cursor.semicolon()?;
-        stood(cursor, room, line, StmtNode::Return(Some(value)), depth)
+        stood(
+            self.alloc,
+            cursor,
+            room,
+            line,
+            StmtNode::Return(Some(value)),
+            depth,
+        )
     }
 
     #[tactic(auto, unfolding(crate::specs::Statements::return_by))]
@@ -140,7 +151,7 @@ impl<
         cursor: &mut Cursor<'_>,
         room: usize,
         line: u32,
-    ) -> Result<(Stmt, usize), ParseStop>
+    ) -> Result<(Boxed<Stmt>, usize), ParseStop>
         requires expr { ReadsExpr T.stands self.now.fuel (F.pre self.now.expr) (F.post self.now.expr) }
         ensures { Reads (spec.return_by (expr self.now.fuel) room line cursor.old) result cursor.new }
     {
@@ -158,13 +169,20 @@ impl<
         cursor: &mut Cursor<'_>,
         room: usize,
         line: u32,
-    ) -> Result<(Stmt, usize), ParseStop>
+    ) -> Result<(Boxed<Stmt>, usize), ParseStop>
         requires expr { ReadsExpr T.stands self.now.fuel (F.pre self.now.expr) (F.post self.now.expr) }
         ensures { Reads (spec.thrown (expr self.now.fuel) room line cursor.old) result cursor.new }
     {
         let (value, depth) = self.nested(cursor, true, 1, room.saturating_sub(1))?;
         cursor.semicolon()?;
-        stood(cursor, room, line, StmtNode::Throw(value), depth)
+        stood(
+            self.alloc,
+            cursor,
+            room,
+            line,
+            StmtNode::Throw(value),
+            depth,
+        )
     }
 
     #[tactic(auto, unfolding(crate::specs::Statements::throw_by))]
@@ -173,7 +191,7 @@ impl<
         cursor: &mut Cursor<'_>,
         room: usize,
         line: u32,
-    ) -> Result<(Stmt, usize), ParseStop>
+    ) -> Result<(Boxed<Stmt>, usize), ParseStop>
         requires expr { ReadsExpr T.stands self.now.fuel (F.pre self.now.expr) (F.post self.now.expr) }
         ensures { Reads (spec.throw_by (expr self.now.fuel) room line cursor.old) result cursor.new }
     {

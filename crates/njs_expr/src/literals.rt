@@ -1,59 +1,23 @@
 //! What numbers and strings stand for (ECMA-262 5.1 §7.8).
 //!
 //! The lexer passes none that are too large or cut off. Where one is, the answer is none.
-ghost use Rattle.std.specs.Prelude.{◌≡◌, ◌≤◌, ◌<◌, ◌==◌, drop, length, false, Some, slice_get, true, ◌++◌, OnOk, IfOk, IfSome, MatchResult};
+ghost use Rattle.std.specs.Prelude.{◌≡◌, ◌≤◌, drop, length, true, ◌++◌, OnOk, IfOk, IfSome, MatchResult};
 ghost use Rattle.std.specs.Char.Utf16.{is_high_surrogate, is_low_surrogate, surrogate_pair_char};
 ghost use Rattle.std.specs.Str.{chars, IsUtf8};
 ghost use Rattle.std.specs.Str.Parse.{digits_value};
-ghost use Rattle.njs_tree.specs.Characters.{begins};
 ghost use Rattle.njs_tree.specs.Lexical as lexical;
-ghost use Rattle.njs_tree.specs.Lexical.{escape_at, hex_escape, hex_value, is_decimal, max_number, pair_escape, unit_escape};
+ghost use Rattle.njs_tree.specs.Lexical.{escape_at, hex_escape, hex_value, max_number, pair_escape, unit_escape};
 ghost use Rattle.njs_tree.specs.TokenList.{string_value, stood_for};
-ghost use Rattle.njs_lexer.specs.Steps.{digit_at, plain_length};
 ghost use Rattle.njs_expr.specs.Escapes.{IsPart, escape_of, listed};
 
 use crate::ParseStop;
+use njs_lexer::escapes::{hex_pair, hex_unit, is_high, is_low, plain_len, second_unit};
+use njs_lexer::rest::{Run, begins, behind, first, past};
 use njs_text::Text;
 use njs_tree::is_line_end;
 use std::alloc::{AllocError, Global};
 
 const MAX_NUMBER: u64 = 9_007_199_254_740_991;
-
-fn first(text: &str) -> Option<char>
-    ensures { result ≡ slice_get (chars text.now) 0 }
-{
-    text.chars().next()
-}
-
-// What follows the first character, if there is one.
-fn behind(text: &str) -> &str
-    ensures { chars result.now ≡ drop 1 (chars text.now) }
-{
-    let mut rest = text.chars();
-    rest.next();
-    rest.as_str()
-}
-
-// What follows so many characters.
-fn past(text: &str, count: usize) -> &str
-    ensures { chars result.now ≡ drop count (chars text.now) }
-{
-    let mut rest = text;
-    for _ in 0..count {
-        rest = behind(rest);
-    }
-    rest
-}
-
-// The digit at the front.
-fn digit(text: &str, radix: u32) -> Option<u32>
-    requires upper { radix ≤ 16 }
-    requires lower { 2 ≤ radix }
-    ensures value { result ≡ digit_at radix (chars text.now) }
-    ensures small { IfSome result (λ d. d < radix) }
-{
-    first(text)?.to_digit(radix)
-}
 
 // The value of some digits.
 fn digits(text: &str, radix: u32) -> Option<u64>
@@ -84,69 +48,6 @@ pub fn number_value(text: &str) -> Option<u64>
         None => Some(0),
         Some('0') => digits(past(text, 2), 16),
         Some(_) => digits(text, 10),
-    }
-}
-
-fn begins_with(expected: char, text: &str) -> bool
-    ensures { result ≡ begins (λ c. c == expected) (chars text.now) }
-{
-    match first(text) {
-        None => false,
-        Some(c) => c == expected,
-    }
-}
-
-fn begins_with_digit(text: &str) -> bool
-    ensures { result ≡ begins is_decimal (chars text.now) }
-{
-    match first(text) {
-        None => false,
-        Some(c) => c.is_digit(10),
-    }
-}
-
-// The value of two hexadecimal digits.
-fn hex_pair(text: &str) -> Option<u32>
-    ensures value { result ≡ hex_value 2 (chars text.now) }
-    ensures small { IfSome result (λ v. v < 256) }
-{
-    let high = digit(text, 16)?;
-    let low = digit(behind(text), 16)?;
-    Some(high * 16 + low)
-}
-
-// The value of four hexadecimal digits.
-fn hex_unit(text: &str) -> Option<u32>
-    ensures value { result ≡ hex_value 4 (chars text.now) }
-    ensures small { IfSome result (λ v. v < 65536) }
-{
-    let high = hex_pair(text)?;
-    let low = hex_pair(past(text, 2))?;
-    Some(high * 256 + low)
-}
-
-fn is_high(unit: u32) -> bool
-    ensures { result ≡ is_high_surrogate unit }
-{
-    matches!(unit, 0xD800..=0xDBFF)
-}
-
-fn is_low(unit: u32) -> bool
-    ensures { result ≡ is_low_surrogate unit }
-{
-    matches!(unit, 0xDC00..=0xDFFF)
-}
-
-// The second unit of a pair: `\u` and four digits.
-fn second_unit(text: &str) -> Option<u32>
-    ensures value { result ≡ lexical.second_unit (chars text.now) }
-    ensures small { IfSome result (λ v. v < 65536) }
-{
-    let after = behind(text);
-    if begins_with('\\', text) && begins_with('u', after) {
-        hex_unit(behind(after))
-    } else {
-        None
     }
 }
 
@@ -196,16 +97,6 @@ fn hex_escape(text: &str) -> Option<(Option<char>, usize)>
     Some((Some(c), 3))
 }
 
-fn plain_len(c: char, after: &str) -> usize
-    ensures { result ≡ plain_length c (chars after.now) }
-{
-    if c == '\r' && begins_with('\n', after) {
-        2
-    } else {
-        1
-    }
-}
-
 fn escaped(c: char) -> char
     ensures { result ≡ lexical.escaped c }
 {
@@ -229,7 +120,7 @@ fn escape(text: &str) -> Option<(Option<char>, usize)>
         'u' => unit_escape(after),
         'x' => hex_escape(after),
         '0' => {
-            if begins_with_digit(after) {
+            if begins(Run::Decimal, after) {
                 None
             } else {
                 Some((Some('\0'), 1))

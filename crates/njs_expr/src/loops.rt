@@ -1,8 +1,10 @@
 //! `do`, `while` and `for` (ECMA-262 5.1 §12.6).
-ghost use Rattle.std.specs.Prelude.{◌≡◌, false};
+ghost use Rattle.std.specs.Prelude.{◌≡◌, false, IfOk};
 ghost use Rattle.njs_expr.specs.Heads as heads;
 ghost use Rattle.njs_expr.specs.Leads as leads;
 ghost use Rattle.njs_expr.specs.Readers as readers;
+ghost use Rattle.njs_tree.specs.declared.tree.ForFirst.TheVariants as for_first;
+ghost use Rattle.njs_tree.specs.declared.tree.ForInHead.TheVariants as for_in_head;
 ghost use Rattle.njs_tree.specs.declared.tree.StmtNode.TheVariants as step;
 ghost use Rattle.njs_expr.specs.Statements as spec;
 ghost use Rattle.njs_expr.specs.Descent.{expr, stmt};
@@ -17,7 +19,7 @@ use crate::trees::{ExprTree, StmtTree};
 use crate::{ParseStop, Terminal};
 use njs_tree::{Expr, ForFirst, ForInHead, Keyword, Mark, Stmt, StmtNode};
 use sqlite_items::Boxed;
-use std::alloc::Global;
+use std::alloc::{AllocError, Global};
 use std::marker::PhantomData;
 
 /// A name, and then `in`.
@@ -30,44 +32,75 @@ fn begins_for_in(first: Terminal, second: Terminal) -> bool
     }
 }
 
+fn unboxed<A>(value: Option<Boxed<A>>) -> Option<A>
+    ensures { result ≡ value }
+{
+    match value {
+        Some(value) => Some(value.into_inner()),
+        None => None,
+    }
+}
+
 // A `for`, made in a frame of its own, which no nested statement waits on.
 #[inline(never)]
 fn stood_for(
+    alloc: Global,
     cursor: &mut Cursor<'_>,
     room: usize,
     line: u32,
-    first: Option<ForFirst>,
-    test: Option<Expr>,
-    update: Option<Expr>,
+    first: Option<Boxed<ForFirst>>,
+    test: Option<Boxed<Expr>>,
+    update: Option<Boxed<Expr>>,
     body: Boxed<Stmt>,
     below: usize,
-) -> Result<(Stmt, usize), ParseStop>
+) -> Result<(Boxed<Stmt>, usize), ParseStop>
     ensures { Reads (readers.stood room line (step.For first test update body) below cursor.old) result cursor.new }
 {
     let node = StmtNode::For {
-        first,
-        test,
-        update,
+        first: unboxed(first),
+        test: unboxed(test),
+        update: unboxed(update),
         body,
     };
-    stood(cursor, room, line, node, below)
+    stood(alloc, cursor, room, line, node, below)
 }
 
 // A `for` with `in`.
 #[inline(never)]
 fn stood_for_in(
+    alloc: Global,
     cursor: &mut Cursor<'_>,
     room: usize,
     line: u32,
-    head: ForInHead,
-    value: Expr,
+    head: Boxed<ForInHead>,
+    value: Boxed<Expr>,
     body: Boxed<Stmt>,
     below: usize,
-) -> Result<(Stmt, usize), ParseStop>
+) -> Result<(Boxed<Stmt>, usize), ParseStop>
     ensures { Reads (readers.stood room line (step.ForIn head value body) below cursor.old) result cursor.new }
 {
-    let node = StmtNode::ForIn { head, value, body };
-    stood(cursor, room, line, node, below)
+    let node = StmtNode::ForIn {
+        head: head.into_inner(),
+        value: value.into_inner(),
+        body,
+    };
+    stood(alloc, cursor, room, line, node, below)
+}
+
+// The expression that stands first in a head.
+#[inline(never)]
+fn first_value(alloc: Global, value: Boxed<Expr>) -> Result<Boxed<ForFirst>, AllocError>
+    ensures { IfOk result (λ f. f ≡ for_first.Expr value) }
+{
+    Boxed::new(alloc, ForFirst::Expr(value.into_inner()))
+}
+
+// The target that stands before the `in`.
+#[inline(never)]
+fn target_head(alloc: Global, target: Boxed<Expr>) -> Result<Boxed<ForInHead>, AllocError>
+    ensures { IfOk result (λ h. h ≡ for_in_head.Target target) }
+{
+    Boxed::new(alloc, ForInHead::Target(target.into_inner()))
 }
 
 impl<
@@ -98,7 +131,7 @@ impl<
         cursor: &mut Cursor<'_>,
         room: usize,
         line: u32,
-    ) -> Result<(Stmt, usize), ParseStop>
+    ) -> Result<(Boxed<Stmt>, usize), ParseStop>
         requires expr { ReadsExpr T.stands self.now.fuel (F.pre self.now.expr) (F.post self.now.expr) }
         requires stmt { ReadsStmt S.stands self.now.fuel (G.pre self.now.stmt) (G.post self.now.stmt) }
         ensures { Reads (spec.do_by (expr self.now.fuel) (stmt self.now.fuel) room line cursor.old) result cursor.new }
@@ -108,6 +141,7 @@ impl<
         let (test, depth) = self.grouped(cursor, room.saturating_sub(1))?;
         cursor.semicolon()?;
         stood(
+            self.alloc,
             cursor,
             room,
             line,
@@ -123,7 +157,7 @@ impl<
         cursor: &mut Cursor<'_>,
         room: usize,
         line: u32,
-    ) -> Result<(Stmt, usize), ParseStop>
+    ) -> Result<(Boxed<Stmt>, usize), ParseStop>
         requires expr { ReadsExpr T.stands self.now.fuel (F.pre self.now.expr) (F.post self.now.expr) }
         requires stmt { ReadsStmt S.stands self.now.fuel (G.pre self.now.stmt) (G.post self.now.stmt) }
         ensures { Reads (spec.while_by (expr self.now.fuel) (stmt self.now.fuel) room line cursor.old) result cursor.new }
@@ -131,6 +165,7 @@ impl<
         let (test, test_depth) = self.grouped(cursor, room.saturating_sub(1))?;
         let (body, depth) = self.body(cursor, room.saturating_sub(1))?;
         stood(
+            self.alloc,
             cursor,
             room,
             line,
@@ -141,35 +176,38 @@ impl<
 
     /// From the statement behind the head on.
     #[tactic(auto, unfolding(crate::specs::Heads::for_body))]
-    #[inline(never)]
     fn for_body(
         &self,
         cursor: &mut Cursor<'_>,
         room: usize,
         line: u32,
-        first: (Option<ForFirst>, usize),
-        test: (Option<Expr>, usize),
-        update: (Option<Expr>, usize),
-    ) -> Result<(Stmt, usize), ParseStop>
+        first: (Option<Boxed<ForFirst>>, usize),
+        test: (Option<Boxed<Expr>>, usize),
+        update: (Option<Boxed<Expr>>, usize),
+    ) -> Result<(Boxed<Stmt>, usize), ParseStop>
         requires stmt { ReadsStmt S.stands self.now.fuel (G.pre self.now.stmt) (G.post self.now.stmt) }
         ensures { Reads (heads.for_body (stmt self.now.fuel) room line first.0 first.1 test update cursor.old) result cursor.new }
     {
+        let (first, first_depth) = first;
+        let (test, test_depth) = test;
+        let (update, update_depth) = update;
         let (body, depth) = self.body(cursor, room.saturating_sub(1))?;
-        let below = first.1.max(test.1.max(update.1.max(depth)));
-        stood_for(cursor, room, line, first.0, test.0, update.0, body, below)
+        let below = first_depth.max(test_depth.max(update_depth.max(depth)));
+        stood_for(
+            self.alloc, cursor, room, line, first, test, update, body, below,
+        )
     }
 
     /// From the update of the head on.
     #[tactic(auto, unfolding(crate::specs::Heads::for_update))]
-    #[inline(never)]
     fn for_update(
         &self,
         cursor: &mut Cursor<'_>,
         room: usize,
         line: u32,
-        first: (Option<ForFirst>, usize),
-        test: (Option<Expr>, usize),
-    ) -> Result<(Stmt, usize), ParseStop>
+        first: (Option<Boxed<ForFirst>>, usize),
+        test: (Option<Boxed<Expr>>, usize),
+    ) -> Result<(Boxed<Stmt>, usize), ParseStop>
         requires expr { ReadsExpr T.stands self.now.fuel (F.pre self.now.expr) (F.post self.now.expr) }
         requires stmt { ReadsStmt S.stands self.now.fuel (G.pre self.now.stmt) (G.post self.now.stmt) }
         ensures { Reads (heads.for_update (expr self.now.fuel) (stmt self.now.fuel) room line first.0 first.1 test cursor.old) result cursor.new }
@@ -186,9 +224,9 @@ impl<
         cursor: &mut Cursor<'_>,
         room: usize,
         line: u32,
-        first: Option<ForFirst>,
+        first: Option<Boxed<ForFirst>>,
         below: usize,
-    ) -> Result<(Stmt, usize), ParseStop>
+    ) -> Result<(Boxed<Stmt>, usize), ParseStop>
         requires expr { ReadsExpr T.stands self.now.fuel (F.pre self.now.expr) (F.post self.now.expr) }
         requires stmt { ReadsStmt S.stands self.now.fuel (G.pre self.now.stmt) (G.post self.now.stmt) }
         ensures { Reads (spec.for_rest (expr self.now.fuel) (stmt self.now.fuel) room line first below cursor.old) result cursor.new }
@@ -200,21 +238,22 @@ impl<
 
     /// From the statement behind the head with `in` on.
     #[tactic(auto, unfolding(crate::specs::Heads::for_in_body))]
-    #[inline(never)]
     fn for_in_body(
         &self,
         cursor: &mut Cursor<'_>,
         room: usize,
         line: u32,
-        head: (ForInHead, usize),
-        value: (Expr, usize),
-    ) -> Result<(Stmt, usize), ParseStop>
+        head: (Boxed<ForInHead>, usize),
+        value: (Boxed<Expr>, usize),
+    ) -> Result<(Boxed<Stmt>, usize), ParseStop>
         requires stmt { ReadsStmt S.stands self.now.fuel (G.pre self.now.stmt) (G.post self.now.stmt) }
         ensures { Reads (heads.for_in_body (stmt self.now.fuel) room line head.0 head.1 value cursor.old) result cursor.new }
     {
+        let (head, head_depth) = head;
+        let (value, value_depth) = value;
         let (body, depth) = self.body(cursor, room.saturating_sub(1))?;
-        let below = head.1.max(value.1.max(depth));
-        stood_for_in(cursor, room, line, head.0, value.0, body, below)
+        let below = head_depth.max(value_depth.max(depth));
+        stood_for_in(self.alloc, cursor, room, line, head, value, body, below)
     }
 
     /// From the closing parenthesis of the head on.
@@ -224,9 +263,9 @@ impl<
         cursor: &mut Cursor<'_>,
         room: usize,
         line: u32,
-        head: (ForInHead, usize),
-        value: (Expr, usize),
-    ) -> Result<(Stmt, usize), ParseStop>
+        head: (Boxed<ForInHead>, usize),
+        value: (Boxed<Expr>, usize),
+    ) -> Result<(Boxed<Stmt>, usize), ParseStop>
         requires stmt { ReadsStmt S.stands self.now.fuel (G.pre self.now.stmt) (G.post self.now.stmt) }
         ensures { Reads (heads.for_in_close (stmt self.now.fuel) room line head.0 head.1 value cursor.old) result cursor.new }
     {
@@ -242,46 +281,50 @@ impl<
         cursor: &mut Cursor<'_>,
         room: usize,
         line: u32,
-        head: ForInHead,
+        head: Boxed<ForInHead>,
         below: usize,
-    ) -> Result<(Stmt, usize), ParseStop>
+    ) -> Result<(Boxed<Stmt>, usize), ParseStop>
         requires expr { ReadsExpr T.stands self.now.fuel (F.pre self.now.expr) (F.post self.now.expr) }
         requires stmt { ReadsStmt S.stands self.now.fuel (G.pre self.now.stmt) (G.post self.now.stmt) }
         ensures { Reads (spec.for_in_rest (expr self.now.fuel) (stmt self.now.fuel) room line head below cursor.old) result cursor.new }
     {
         cursor.expect_word(Keyword::In)?;
-        let value = self.nested(cursor, true, 1, room.saturating_sub(1))?;
+        let value = self.boxed(cursor, true, room.saturating_sub(1))?;
         self.for_in_close(cursor, room, line, (head, below), value)
     }
 
     #[tactic(auto, unfolding(crate::specs::Statements::for_in_var))]
+    #[inline(never)]
     fn for_in_var(
         &self,
         cursor: &mut Cursor<'_>,
         room: usize,
         line: u32,
-    ) -> Result<(Stmt, usize), ParseStop>
+    ) -> Result<(Boxed<Stmt>, usize), ParseStop>
         requires expr { ReadsExpr T.stands self.now.fuel (F.pre self.now.expr) (F.post self.now.expr) }
         requires stmt { ReadsStmt S.stands self.now.fuel (G.pre self.now.stmt) (G.post self.now.stmt) }
         ensures { Reads (spec.for_in_var (expr self.now.fuel) (stmt self.now.fuel) room line cursor.old) result cursor.new }
     {
         let name = cursor.name(self.alloc)?;
-        self.for_in_rest(cursor, room, line, ForInHead::Var(name), 0)
+        let head = Boxed::new(self.alloc, ForInHead::Var(name))?;
+        self.for_in_rest(cursor, room, line, head, 0)
     }
 
     #[tactic(auto, unfolding(crate::specs::Statements::for_plain_var))]
+    #[inline(never)]
     fn for_plain_var(
         &self,
         cursor: &mut Cursor<'_>,
         room: usize,
         line: u32,
-    ) -> Result<(Stmt, usize), ParseStop>
+    ) -> Result<(Boxed<Stmt>, usize), ParseStop>
         requires expr { ReadsExpr T.stands self.now.fuel (F.pre self.now.expr) (F.post self.now.expr) }
         requires stmt { ReadsStmt S.stands self.now.fuel (G.pre self.now.stmt) (G.post self.now.stmt) }
         ensures { Reads (spec.for_plain_var (expr self.now.fuel) (stmt self.now.fuel) room line cursor.old) result cursor.new }
     {
         let (variables, depth) = self.declarators(cursor, false, room.saturating_sub(1))?;
-        self.for_rest(cursor, room, line, Some(ForFirst::Var(variables)), depth)
+        let first = Boxed::new(self.alloc, ForFirst::Var(variables))?;
+        self.for_rest(cursor, room, line, Some(first), depth)
     }
 
     /// After the `var` of the head.
@@ -291,7 +334,7 @@ impl<
         cursor: &mut Cursor<'_>,
         room: usize,
         line: u32,
-    ) -> Result<(Stmt, usize), ParseStop>
+    ) -> Result<(Boxed<Stmt>, usize), ParseStop>
         requires expr { ReadsExpr T.stands self.now.fuel (F.pre self.now.expr) (F.post self.now.expr) }
         requires stmt { ReadsStmt S.stands self.now.fuel (G.pre self.now.stmt) (G.post self.now.stmt) }
         ensures { Reads (spec.for_var (expr self.now.fuel) (stmt self.now.fuel) room line cursor.old) result cursor.new }
@@ -309,17 +352,18 @@ impl<
         cursor: &mut Cursor<'_>,
         room: usize,
         line: u32,
-        target: (Expr, usize),
-    ) -> Result<(Stmt, usize), ParseStop>
+        target: (Boxed<Expr>, usize),
+    ) -> Result<(Boxed<Stmt>, usize), ParseStop>
         requires expr { ReadsExpr T.stands self.now.fuel (F.pre self.now.expr) (F.post self.now.expr) }
         requires stmt { ReadsStmt S.stands self.now.fuel (G.pre self.now.stmt) (G.post self.now.stmt) }
         ensures { Reads (spec.for_in_target (expr self.now.fuel) (stmt self.now.fuel) room line target cursor.old) result cursor.new }
     {
         let (target, depth) = target;
-        if !is_target(&target) {
+        if !is_target(target.get()) {
             return Err(cursor.refuse());
         }
-        self.for_in_rest(cursor, room, line, ForInHead::Target(target), depth)
+        let head = target_head(self.alloc, target)?;
+        self.for_in_rest(cursor, room, line, head, depth)
     }
 
     #[tactic(auto, unfolding(crate::specs::Statements::for_expr))]
@@ -329,17 +373,18 @@ impl<
         cursor: &mut Cursor<'_>,
         room: usize,
         line: u32,
-    ) -> Result<(Stmt, usize), ParseStop>
+    ) -> Result<(Boxed<Stmt>, usize), ParseStop>
         requires expr { ReadsExpr T.stands self.now.fuel (F.pre self.now.expr) (F.post self.now.expr) }
         requires stmt { ReadsStmt S.stands self.now.fuel (G.pre self.now.stmt) (G.post self.now.stmt) }
         ensures { Reads (spec.for_expr (expr self.now.fuel) (stmt self.now.fuel) room line cursor.old) result cursor.new }
     {
-        let first = self.nested(cursor, false, 1, room.saturating_sub(1))?;
+        let first = self.boxed(cursor, false, room.saturating_sub(1))?;
         if cursor.sees_word(Keyword::In) {
             return self.for_in_target(cursor, room, line, first);
         }
         let (first, depth) = first;
-        self.for_rest(cursor, room, line, Some(ForFirst::Expr(first)), depth)
+        let first = first_value(self.alloc, first)?;
+        self.for_rest(cursor, room, line, Some(first), depth)
     }
 
     // The head of a `for`, and what stands behind it, by how it begins.
@@ -349,7 +394,7 @@ impl<
         room: usize,
         line: u32,
         lead: Lead,
-    ) -> Result<(Stmt, usize), ParseStop>
+    ) -> Result<(Boxed<Stmt>, usize), ParseStop>
         requires expr { ReadsExpr T.stands self.now.fuel (F.pre self.now.expr) (F.post self.now.expr) }
         requires stmt { ReadsStmt S.stands self.now.fuel (G.pre self.now.stmt) (G.post self.now.stmt) }
         ensures { Reads (leads.head_by (expr self.now.fuel) (stmt self.now.fuel) room line lead cursor.old) result cursor.new }
@@ -370,7 +415,7 @@ impl<
         cursor: &mut Cursor<'_>,
         room: usize,
         line: u32,
-    ) -> Result<(Stmt, usize), ParseStop>
+    ) -> Result<(Boxed<Stmt>, usize), ParseStop>
         requires expr { ReadsExpr T.stands self.now.fuel (F.pre self.now.expr) (F.post self.now.expr) }
         requires stmt { ReadsStmt S.stands self.now.fuel (G.pre self.now.stmt) (G.post self.now.stmt) }
         ensures { Reads (spec.for_by (expr self.now.fuel) (stmt self.now.fuel) room line cursor.old) result cursor.new }

@@ -34,16 +34,17 @@ pub fn grown(
 #[tactic(auto, unfolding(crate::specs::Readers::stood))]
 #[inline(never)]
 pub fn stood(
+    alloc: Global,
     cursor: &Cursor<'_>,
     room: usize,
     line: u32,
     node: StmtNode,
     below: usize,
-) -> Result<(Stmt, usize), ParseStop>
+) -> Result<(Boxed<Stmt>, usize), ParseStop>
     ensures { Reads (spec.stood room line node below cursor.now) result cursor.now }
 {
     if below < room {
-        Ok((Stmt { line, node }, below + 1))
+        Ok((Boxed::new(alloc, Stmt { line, node })?, below + 1))
     } else {
         Err(cursor.refuse())
     }

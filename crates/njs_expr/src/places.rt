@@ -61,7 +61,7 @@ fn whole_item(alloc: Global, cursor: &mut Cursor<'_>) -> Result<(Stmt, usize), P
     if cursor.sees_word(Keyword::Else) || cursor.sees_word(Keyword::Finally) {
         return Err(cursor.refuse());
     }
-    Ok((tree, depth))
+    Ok((tree.into_inner(), depth))
 }
 
 fn rest_of(tokens: &[Token], at: usize) -> &[Token]

@@ -1,5 +1,6 @@
 //! Statements, by their first symbols (ECMA-262 5.1 §12).
 ghost use Rattle.std.specs.Prelude.{◌≡◌, false};
+ghost use Rattle.njs_tree.specs.declared.tree.StmtNode.TheVariants as step;
 ghost use Rattle.njs_expr.specs.Readers as readers;
 ghost use Rattle.njs_expr.specs.Statements as spec;
 ghost use Rattle.njs_expr.specs.Leads as leads;
@@ -18,6 +19,19 @@ use njs_tree::{Expr, Mark, Stmt, StmtNode};
 use sqlite_items::Boxed;
 use std::alloc::Global;
 use std::marker::PhantomData;
+
+// A statement that is empty, made in a frame of its own, which no nested statement waits on.
+#[inline(never)]
+fn empty(
+    alloc: Global,
+    cursor: &Cursor<'_>,
+    room: usize,
+    line: u32,
+) -> Result<(Boxed<Stmt>, usize), ParseStop>
+    ensures { Reads (readers.stood room line step.Empty 0 cursor.now) result cursor.now }
+{
+    stood(alloc, cursor, room, line, StmtNode::Empty, 0)
+}
 
 impl<
     T: ExprTree,
@@ -41,17 +55,18 @@ impl<
     ) -> Result<(S, usize), ParseStop>,
 > Grammar<T, S, F, G> {
     #[tactic(auto, unfolding(crate::specs::Statements::block_by))]
+    #[inline(never)]
     fn block_by(
         &self,
         cursor: &mut Cursor<'_>,
         room: usize,
         line: u32,
-    ) -> Result<(Stmt, usize), ParseStop>
+    ) -> Result<(Boxed<Stmt>, usize), ParseStop>
         requires stmt { ReadsStmt S.stands self.now.fuel (G.pre self.now.stmt) (G.post self.now.stmt) }
         ensures { Reads (spec.block_by (stmt self.now.fuel) room line cursor.old) result cursor.new }
     {
         let (body, depth) = self.braced(cursor, false, room)?;
-        stood(cursor, room, line, StmtNode::Block(body), depth)
+        stood(self.alloc, cursor, room, line, StmtNode::Block(body), depth)
     }
 
     #[tactic(auto, unfolding(crate::specs::Statements::label_statement))]
@@ -61,18 +76,24 @@ impl<
         cursor: &mut Cursor<'_>,
         room: usize,
         line: u32,
-    ) -> Result<(Stmt, usize), ParseStop>
+    ) -> Result<(Boxed<Stmt>, usize), ParseStop>
         requires stmt { ReadsStmt S.stands self.now.fuel (G.pre self.now.stmt) (G.post self.now.stmt) }
         ensures { Reads (spec.label_statement (stmt self.now.fuel) room line cursor.old) result cursor.new }
     {
         let name = cursor.name(self.alloc)?;
         cursor.expect(Mark::Colon)?;
         let (body, depth) = self.nested_statement(cursor, false, room.saturating_sub(1))?;
-        if !is_loop(&body) {
+        if !is_loop(body.get()) {
             return Err(cursor.refuse());
         }
-        let body = Boxed::new(self.alloc, body)?;
-        stood(cursor, room, line, StmtNode::Label(name, body), depth)
+        stood(
+            self.alloc,
+            cursor,
+            room,
+            line,
+            StmtNode::Label(name, body),
+            depth,
+        )
     }
 
     #[tactic(auto, unfolding(crate::specs::Statements::name_by))]
@@ -82,7 +103,7 @@ impl<
         room: usize,
         line: u32,
         second: Terminal,
-    ) -> Result<(Stmt, usize), ParseStop>
+    ) -> Result<(Boxed<Stmt>, usize), ParseStop>
         requires expr { ReadsExpr T.stands self.now.fuel (F.pre self.now.expr) (F.post self.now.expr) }
         requires stmt { ReadsStmt S.stands self.now.fuel (G.pre self.now.stmt) (G.post self.now.stmt) }
         ensures { Reads (spec.name_by (expr self.now.fuel) (stmt self.now.fuel) room line second cursor.old) result cursor.new }
@@ -100,7 +121,7 @@ impl<
         room: usize,
         line: u32,
         word: Jump,
-    ) -> Result<(Stmt, usize), ParseStop>
+    ) -> Result<(Boxed<Stmt>, usize), ParseStop>
         requires expr { ReadsExpr T.stands self.now.fuel (F.pre self.now.expr) (F.post self.now.expr) }
         ensures { Reads (leads.jump_by (expr self.now.fuel) room line word cursor.old) result cursor.new }
     {
@@ -118,7 +139,7 @@ impl<
         room: usize,
         line: u32,
         word: Loop,
-    ) -> Result<(Stmt, usize), ParseStop>
+    ) -> Result<(Boxed<Stmt>, usize), ParseStop>
         requires expr { ReadsExpr T.stands self.now.fuel (F.pre self.now.expr) (F.post self.now.expr) }
         requires stmt { ReadsStmt S.stands self.now.fuel (G.pre self.now.stmt) (G.post self.now.stmt) }
         ensures { Reads (leads.loop_by (expr self.now.fuel) (stmt self.now.fuel) room line word cursor.old) result cursor.new }
@@ -138,7 +159,7 @@ impl<
         line: u32,
         lead: Lead,
         second: Terminal,
-    ) -> Result<(Stmt, usize), ParseStop>
+    ) -> Result<(Boxed<Stmt>, usize), ParseStop>
         requires expr { ReadsExpr T.stands self.now.fuel (F.pre self.now.expr) (F.post self.now.expr) }
         requires stmt { ReadsStmt S.stands self.now.fuel (G.pre self.now.stmt) (G.post self.now.stmt) }
         ensures { Reads (leads.lead_by (expr self.now.fuel) (stmt self.now.fuel) declares room line lead second cursor.old) result cursor.new }
@@ -146,7 +167,7 @@ impl<
         match lead {
             Lead::Empty => {
                 cursor.take();
-                stood(cursor, room, line, StmtNode::Empty, 0)
+                empty(self.alloc, cursor, room, line)
             }
             Lead::Block => self.block_by(cursor, room, line),
             Lead::Function => self.function_by(cursor, declares, room, line),
@@ -186,7 +207,7 @@ impl<
         cursor: &mut Cursor<'_>,
         declares: bool,
         room: usize,
-    ) -> Result<(Stmt, usize), ParseStop>
+    ) -> Result<(Boxed<Stmt>, usize), ParseStop>
         requires expr { ReadsExpr T.stands self.now.fuel (F.pre self.now.expr) (F.post self.now.expr) }
         requires stmt { ReadsStmt S.stands self.now.fuel (G.pre self.now.stmt) (G.post self.now.stmt) }
         ensures { Reads (spec.one_statement (expr self.now.fuel) (stmt self.now.fuel) declares room cursor.old) result cursor.new }

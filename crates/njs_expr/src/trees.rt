@@ -9,6 +9,7 @@ ghost use Rattle.njs_expr.specs.Reads.{Builds};
 
 use crate::ParseStop;
 use njs_tree::{Expr, Stmt};
+use sqlite_items::Boxed;
 
 pub trait ExprTree: Drop + Sized {
     ghost stands: { Self → Expression };
@@ -35,21 +36,21 @@ impl ExprTree for Expr {
 pub trait StmtTree: Drop + Sized {
     ghost stands: { Self → Statement };
 
-    fn from_tree(tree: Stmt) -> Self
+    fn from_tree(tree: Boxed<Stmt>) -> Self
         ensures { stands result ≡ tree };
 
-    fn into_tree(self) -> Stmt
+    fn into_tree(self) -> Boxed<Stmt>
         ensures { result ≡ stands self };
 }
 
-impl StmtTree for Stmt {
+impl StmtTree for Boxed<Stmt> {
     ghost stands = { λ tree. tree };
 
-    fn from_tree(tree: Stmt) -> Stmt {
+    fn from_tree(tree: Boxed<Stmt>) -> Boxed<Stmt> {
         tree
     }
 
-    fn into_tree(self) -> Stmt {
+    fn into_tree(self) -> Boxed<Stmt> {
         self
     }
 }
@@ -66,7 +67,7 @@ pub fn expression_from<T: ExprTree>(
 }
 
 pub fn statement_from<S: StmtTree>(
-    outcome: Result<(Stmt, usize), ParseStop>,
+    outcome: Result<(Boxed<Stmt>, usize), ParseStop>,
 ) -> Result<(S, usize), ParseStop>
     ensures { Builds S.stands outcome result }
 {

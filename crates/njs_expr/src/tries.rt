@@ -11,7 +11,7 @@ use crate::nodes::stood;
 use crate::trees::{ExprTree, StmtTree};
 use njs_text::Text;
 use njs_tree::{Expr, Keyword, Mark, Stmt, StmtNode};
-use sqlite_items::Items;
+use sqlite_items::{Boxed, Items};
 use std::alloc::Global;
 use std::marker::PhantomData;
 
@@ -98,12 +98,13 @@ impl<
     }
 
     #[tactic(auto, unfolding(crate::specs::Statements::try_by))]
+    #[inline(never)]
     pub fn try_by(
         &self,
         cursor: &mut Cursor<'_>,
         room: usize,
         line: u32,
-    ) -> Result<(Stmt, usize), ParseStop>
+    ) -> Result<(Boxed<Stmt>, usize), ParseStop>
         requires stmt { ReadsStmt S.stands self.now.fuel (G.pre self.now.stmt) (G.post self.now.stmt) }
         ensures { Reads (spec.try_by (stmt self.now.fuel) room line cursor.old) result cursor.new }
     {
@@ -119,6 +120,7 @@ impl<
             finally,
         };
         stood(
+            self.alloc,
             cursor,
             room,
             line,

@@ -668,6 +668,29 @@ const AT_LIMITS: &[(&[(&str, usize)], Option<ScriptWhy>)] = &[
     (&[("a", 1), (".a", 999)], Some(ScriptWhy::Syntax(1))),
     (&[("if (a) ", 999), (";", 1)], None),
     (&[("if (a) ", 1000), (";", 1)], Some(ScriptWhy::Syntax(1))),
+    (&[("while (a) ", 999), (";", 1)], None),
+    (
+        &[("while (a) ", 1000), (";", 1)],
+        Some(ScriptWhy::Syntax(1)),
+    ),
+    (&[("do ", 999), (";", 1), (" while (a);", 999)], None),
+    (
+        &[("do ", 1000), (";", 1), (" while (a);", 1000)],
+        Some(ScriptWhy::Syntax(1)),
+    ),
+    (&[("for (;;) ", 999), (";", 1)], None),
+    (&[("for (;;) ", 1000), (";", 1)], Some(ScriptWhy::Syntax(1))),
+    (&[("for (var a = b; a; a) ", 999), (";", 1)], None),
+    (&[("for (a = b; a; a) ", 998), (";", 1)], None),
+    (
+        &[("for (a = b; a; a) ", 999), (";", 1)],
+        Some(ScriptWhy::Syntax(1)),
+    ),
+    (&[("for (a in b) ", 999), (";", 1)], None),
+    (
+        &[("for (a in b) ", 1000), (";", 1)],
+        Some(ScriptWhy::Syntax(1)),
+    ),
     (&[("(function () { ", 100), ("})", 100)], None),
     (
         &[("(function () { ", 101), ("})", 101)],
