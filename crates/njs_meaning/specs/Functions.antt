@@ -83,10 +83,13 @@ each_once before (name ∷ names) =
 abbrev pub arguments_name : List ℕ
 arguments_name = codes "arguments"
 
--- the names of a function's scope
+-- the names of a function's scope: its parameters, the functions that it declares, `arguments` where it names it, and its `var`s
+abbrev pub scope_names : List (List ℕ) → List Declared → Bool → List (List ℕ) → List (List ℕ)
+scope_names params declared takes_arguments vars =
+    each_once [] (params ++ map (λ d. d.name) declared ++ (if takes_arguments then arguments_name ∷ [] else []) ++ vars)
+
 abbrev pub names_of_scope : Function → List (List ℕ)
-names_of_scope f =
-    each_once [] (f.params ++ map (λ d. d.name) f.declared ++ (if f.takes_arguments then arguments_name ∷ [] else []) ++ f.vars)
+names_of_scope f = scope_names f.params f.declared f.takes_arguments f.vars
 
 -- the variables, where the parameters have their arguments
 abbrev pub parameter_value : List (List ℕ) → List PlainValue → List ℕ → PlainValue
@@ -108,29 +111,29 @@ arguments_object args =
     (numbered 0 args ++ (length_name, record { value = length_value (length args); flags = hidden }) ∷ []) Plain
 
 -- the declared functions are made, in order of the text; the last of a name wins
-abbrev pub with_declared : List Declared → (ℕ → ℕ) → Runs PlainValue → Runs PlainValue
-with_declared [] params go x s = go x s
-with_declared (d ∷ ds) params go x s =
-    and_then (made_in x.scope d.number (params d.number) x s) (λ f s.
-    and_then (assign_name d.name f x s) (λ v s. with_declared ds params go x s))
+abbrev pub with_declared : List Declared → Runs PlainValue → Runs PlainValue
+with_declared [] go x s = go x s
+with_declared (d ∷ ds) go x s =
+    and_then (made_in x.scope d.number d.params x s) (λ f s.
+    and_then (assign_name d.name f x s) (λ v s. with_declared ds go x s))
 
 abbrev pub with_arguments : List PlainValue → Runs PlainValue → Runs PlainValue
 with_arguments args go x s =
     charge (one_and (length args) 8) (λ s.
     and_then (assign_name arguments_name (ObjectAt (length s.objects)) x (with_object (arguments_object args) s)) (λ v s. go x s)) s
 
--- from the scope on: `params` tells the number of parameters of the functions of the module
-abbrev pub run_body : Function → (ℕ → ℕ) → List PlainValue → Runs PlainValue
-run_body f params args x s =
-    with_declared f.declared params (λ x s.
+-- from the scope on
+abbrev pub run_body : Function → List PlainValue → Runs PlainValue
+run_body f args x s =
+    with_declared f.declared (λ x s.
     (if f.takes_arguments then with_arguments args else (λ go. go)) (λ x s.
     and_then (f.body x s) (λ c s. Gives (returned c) s)) x s) x s
 
 -- a call of a function of a script: it costs ticks by the names of its scope
-abbrev pub run_function : Calls → ℕ → ScopeId → (ℕ → ℕ) → Function → PlainValue → List PlainValue → State → Outcome PlainValue
-run_function calls unit scope params f this args s =
+abbrev pub run_function : Calls → ℕ → ScopeId → Function → PlainValue → List PlainValue → State → Outcome PlainValue
+run_function calls unit scope f this args s =
     charge (one_and (length (names_of_scope f)) 8) (λ s.
-    run_body f params args (record { calls = calls; unit = unit; scope = next_scope s; this = this }) (with_scope scope (first_variables f args) s)) s
+    run_body f args (record { calls = calls; unit = unit; scope = next_scope s; this = this }) (with_scope scope (first_variables f args) s)) s
 
 -- ---- calls
 
@@ -143,13 +146,9 @@ pub record Program : Type 0 where
 abbrev pub functions_of : Program → ℕ → List Function
 functions_of program unit = option_map_or (λ fs. fs) (slice_get program.functions unit) []
 
-abbrev pub params_in : List Function → ℕ → ℕ
-params_in functions number = option_map_or (λ f. length f.params) (slice_get functions number) 0
-
 abbrev pub call_script : Program → Calls → ℕ → ℕ → ScopeId → PlainValue → List PlainValue → State → Outcome PlainValue
 call_script program calls unit number scope this args s =
-    let functions = functions_of program unit in
-    option_map_or (λ f. run_function calls unit scope (params_in functions) f this args s) (slice_get functions number) (throw NotFunction s)
+    option_map_or (λ f. run_function calls unit scope f this args s) (slice_get (functions_of program unit) number) (throw NotFunction s)
 
 -- a call, by what the function is beside its properties
 abbrev pub call_inner : Program → Calls → PlainInner → PlainValue → List PlainValue → State → Outcome PlainValue

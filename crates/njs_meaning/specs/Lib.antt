@@ -13,6 +13,7 @@ pub mod Conversions
 pub mod Parts
 pub mod Running
 pub mod Scopes
+pub mod Places
 pub mod Members
 pub mod References
 pub mod Operations

@@ -30,9 +30,9 @@ use Rattle.njs_meaning.specs.Scopes.{bound, unbound, fixed, next_scope, with_sco
 use Rattle.njs_meaning.specs.Members.{with_members, put_member, has_member, names_in}
 use Rattle.njs_meaning.specs.References.{Reference, Of, Named, Member, Expression, value_of, assigned, deleted, this_of, is_unbound, evaluated}
 use Rattle.njs_meaning.specs.Operations.{answered, binary, unary, stepped, leaves_out, type_of}
-use Rattle.njs_meaning.specs.Completions.{Completion, Normal, Returned, Broken, Continued, Statement, and_on, in_turn, after_body, Test, goes_on, loop, caught_by, done_at_last, after_switch}
-use Rattle.njs_meaning.specs.Functions.{Function, made_in, with_declared, each_once, params_in}
-use Rattle.njs_meaning.specs.Parts.{Part, leaf, one, two, three, four, each, held, each_named, each_held, each_named_held, with_vars, with_declaration}
+use Rattle.njs_meaning.specs.Completions.{Completion, Normal, Returned, Broken, Continued, Statement, and_on, in_turn, after_body, Test, goes_on, loop, caught_by, done_at_last, after_switch, returned}
+use Rattle.njs_meaning.specs.Functions.{Function, made_in, with_declared, each_once}
+use Rattle.njs_meaning.specs.Parts.{Declared, Part, leaf, one, two, three, four, each, held, each_named, each_held, each_named_held, with_vars, with_declaration, without_declared}
 
 -- a value is what an expression is
 abbrev pub given : Runs PlainValue → Expression
@@ -399,10 +399,10 @@ head_part (ForInHead-F.Target target) = target
 abbrev pub branch_part : Case-F Of_expression Of_first Of_expression Of_statement Of_branch Of_expression Of_function Of_statement → Of_branch
 branch_part c = two (held c.test) (each c.body) (λ test body. record { test = test; body = body })
 
--- the block of a `catch`, with its name
+-- the block of a `catch`, with its name. It stands in a scope of its own, and the grammar lets no function be declared there
 abbrev pub caught_part : Option (List ℕ × List Of_statement) → Part Function (Option (List ℕ × List Statement))
 caught_part None = leaf None
-caught_part (Some caught) = one (each caught.1) (λ body. Some (caught.0, body))
+caught_part (Some caught) = one (without_declared (each caught.1)) (λ body. Some (caught.0, body))
 
 abbrev pub last_part : Option (List Of_statement) → Part Function (Option (List Statement))
 last_part None = leaf None
@@ -416,6 +416,9 @@ abbrev pub ends_with : Completion → Statement
 ends_with c labels x s = Gives c s
 
 -- a declared function is made where the scope is, and not where it stands
+abbrev pub declared_as : Made → Declared
+declared_as made = record { name = option_map_or (λ name. name) made.name []; number = made.number; params = made.params }
+
 abbrev pub declaration : Made → Statement
 declaration made = ends_with Normal
 
@@ -436,7 +439,7 @@ statement_part (StmtNode-F.Throw value) = one value throw_value
 statement_part (StmtNode-F.Switch value cases) = two value (each cases) switch
 statement_part (StmtNode-F.Try body caught last) = three (each body) (caught_part caught) (last_part last) try_catch
 statement_part (StmtNode-F.Label label body) = one body (labelled label)
-statement_part (StmtNode-F.FunctionDecl f) = with_declaration f (λ made. option_map_or (λ name. name) made.name []) (λ made. made.number) declaration
+statement_part (StmtNode-F.FunctionDecl f) = with_declaration f declared_as declaration
 
 abbrev pub stmt_part : Stmt-F Of_expression Of_first Of_expression Of_statement Of_branch Of_expression Of_function Of_statement → Of_statement
 stmt_part s = one s.node begun_statement
@@ -449,16 +452,22 @@ expression = fold-Expr Of_expression Of_first Of_expression Of_statement Of_bran
 unfoldable pub statement : Stmt → Of_statement
 statement = fold-Stmt Of_expression Of_first Of_expression Of_statement Of_branch Of_expression Of_function Of_statement node_part first_part head_part statement_part branch_part expr_part function_part stmt_part
 
--- an item gives the value that it exports, if it exports one
+-- an item gives the value that it exports, if it exports one. An ending that leads out of the item, which early refusals rule
+-- out, would end the module as it ends a function
 pub data Ending : Type 0 where
   Done : Ending
   Exported : PlainValue → Ending
+  Ended : PlainValue → Ending
 
 abbrev pub Item_means : Type 0
 Item_means = Runs Ending
 
+abbrev pub ending_of : Completion → Ending
+ending_of Normal = Done
+ending_of c = Ended (returned c)
+
 abbrev pub statement_item : Statement → Item_means
-statement_item a x s = and_then (a [] x s) (λ c s. Gives Done s)
+statement_item a x s = and_then (a [] x s) (λ c s. Gives (ending_of c) s)
 
 abbrev pub export_item : Expression → Item_means
 export_item a x s = and_then (evaluated a x s) (λ v s. Gives (Exported v) s)
@@ -475,13 +484,14 @@ abbrev pub script_part : Script → Part Function (List Item_means)
 script_part script = items_part script.items
 
 -- the items of a module in order; what is exported is given in the end, undefined where nothing is
-abbrev pub later_export : PlainValue → Ending → PlainValue
-later_export v Done = v
-later_export v (Exported w) = w
+abbrev pub after_item : PlainValue → Ending → (PlainValue → State → Outcome PlainValue) → State → Outcome PlainValue
+after_item v Done next s = next v s
+after_item v (Exported w) next s = next w s
+after_item v (Ended w) next s = Gives w s
 
 abbrev pub run_items : PlainValue → List Item_means → Runs PlainValue
 run_items v [] x s = Gives v s
-run_items v (i ∷ is) x s = and_then (i x s) (λ e. run_items (later_export v e) is x)
+run_items v (i ∷ is) x s = and_then (i x s) (λ e. after_item v e (λ w. run_items w is x))
 
 -- the functions of a module, numbered in order of the text
 abbrev pub functions_of : Script → List Function
@@ -498,6 +508,6 @@ module_names script =
 abbrev pub run_module : Calls → ℕ → Script → State → Outcome PlainValue
 run_module calls unit script s =
     let part = script_part script in
-    with_declared (part.declared 0) (params_in (functions_of script)) (run_items (Simple Undefined) (part.means 0))
+    with_declared (part.declared 0) (run_items (Simple Undefined) (part.means 0))
     (record { calls = calls; unit = unit; scope = next_scope s; this = Simple Undefined })
     (with_scope (record { 0 = 0 }) (map unbound (module_names script)) s)

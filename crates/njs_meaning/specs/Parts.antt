@@ -2,10 +2,11 @@
 -- that they declare (ECMA-262 5.1 §10.5, §12.2, §13), and whether they name `arguments` (§10.6).
 use Rattle.std.specs.Prelude.{ℕ, ◌+◌, List, [], ◌∷◌, ◌++◌, Bool, false, ◌||◌, Option, Some, None}
 
--- a declared function: its name and its number
+-- a declared function: its name, its number, and how many parameters it has
 pub record Declared : Type 0 where
   pub name : List ℕ
   pub number : ℕ
+  pub params : ℕ
 
 -- a part with a meaning A, in which each function is an F; `first` is the number of the first function in it
 pub record Part (F A : Type 0) : Type 0 where
@@ -85,12 +86,23 @@ module _ {F : Type 0} where
   }
 
   -- the declaration of a function
-  abbrev pub with_declaration : {A B : Type 0} → Part F A → (A → List ℕ) → (A → ℕ) → (A → B) → Part F B
-  with_declaration a name number f = record {
+  abbrev pub with_declaration : {A B : Type 0} → Part F A → (A → Declared) → (A → B) → Part F B
+  with_declaration a declared f = record {
     size = a.size;
     functions = a.functions;
-    declared = λ first. record { name = name (a.means first); number = number (a.means first) } ∷ [];
+    declared = λ first. declared (a.means first) ∷ [];
     vars = a.vars;
     names_arguments = a.names_arguments;
     means = λ first. f (a.means first);
+  }
+
+  -- a part whose declared functions are none of the function around it
+  abbrev pub without_declared : {A : Type 0} → Part F A → Part F A
+  without_declared a = record {
+    size = a.size;
+    functions = a.functions;
+    declared = λ first. [];
+    vars = a.vars;
+    names_arguments = a.names_arguments;
+    means = a.means;
   }
