@@ -1,0 +1,11 @@
+pub mod Stacks
+pub mod Step
+pub mod Runs
+pub mod Emission
+pub mod EmissionOfStatements
+pub mod Compiled
+pub mod Fits
+pub mod Laws
+pub mod Program
+pub mod Checks
+pub mod Sound
