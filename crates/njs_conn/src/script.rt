@@ -72,6 +72,7 @@ fn checked(script: Script) -> Result<Checked, ScriptStop>
 fn script_of(alloc: Global, text: &Text) -> Result<Checked, ScriptStop>
     ensures { spec.TextFrom text.now result }
 {
+    let _bytes = text.as_bytes();
     match parse(alloc, text) {
         Ok(script) => checked(script),
         Err(fault) => Err(stop(fault)),
