@@ -8,6 +8,7 @@ pub mod Chains
 pub mod Objects
 pub mod PlainHeap
 pub mod State
+pub mod Replies
 pub mod Errors
 pub mod Conversions
 pub mod Parts
