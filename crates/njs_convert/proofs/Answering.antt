@@ -1,7 +1,8 @@
 -- The calls of a caller of the tests.
 use Rattle.std.proofs.Common.{◌≡◌, ℕ, ℤ, ◌≤◌, ◌-◌, ◌+◌, List, [], ◌∷◌, Option, Some, None, Ok, false, length, arith, ap, sym, ◌∙◌, subst, length-append}
-use Rattle.std.specs.Prelude.{◌==◌, if◌then◌else◌}
+use Rattle.std.specs.Prelude.{◌==◌, if◌then◌else◌, OnOk, OnErr, Result, Err}
 use Rattle.njs_value.specs.declared.Class.TheVariants.{Array}
+use Rattle.njs_value.specs.declared.ObjId.{ObjId}
 use Rattle.njs_value.specs.declared.Value.{Value}
 use Rattle.njs_value.specs.declared.Value.TheVariants as value
 use Rattle.njs_shared.specs.declared.object.Inner.TheVariants as inner
@@ -12,8 +13,15 @@ use Rattle.njs_clone.specs.StandsFor.{plain_objects, GoByContent}
 use Rattle.njs_meaning.specs.Values.{PlainValue}
 use Rattle.njs_meaning.specs.Objects.{with_new_object}
 use Rattle.njs_meaning.specs.State.{State, Gives, Spent, Call}
+use Rattle.njs_text.specs.declared.memory.NoMemory.{NoMemory}
 use Rattle.njs_convert.specs.Answering.{answer, chosen, with_array, answering}
-use Rattle.njs_convert.specs.Tells.{Tells, ShowsValue}
+use Rattle.njs_convert.specs.Tells.{Tells, ShowsValue, Grows}
+use Rattle.njs_convert.proofs.Grown.{Grows-same, Grows-objects}
+
+-- an array more, or want of memory
+pub array_grows : (h k : Heap) (r : Result ObjId NoMemory) → OnOk r (k ≡ record h { objects = with_new_object written Array None inner.Plain h.objects }) → OnErr r (k ≡ h) → Grows h k
+array_grows h k (Ok object) is stays = Grows-objects h k _ is
+array_grows h k (Err none) is stays = Grows-same h k stays
 
 module _ (h k : Heap) (is : k ≡ record h { objects = with_new_object written Array None inner.Plain h.objects }) where
   -- the array, by content
@@ -33,14 +41,14 @@ module _ (h k : Heap) (is : k ≡ record h { objects = with_new_object written A
   still_fits (value.Obj o) fits = omega (arith, one_more)
 
   -- the answer of a call that has a tick
-  pub answered : (f this v : Value) (args : List PlainValue) (left at : ℕ) (first second which : Option ℤ) (m : Call) (after : State → Type 0) (s : State)
+  pub answered : (f this v : Value) (args : List PlainValue) (left at : ℕ) (first second which : Option ℤ) (m : Call) (after stopped : State → Type 0) (s : State)
       → m (content h.texts f) (content h.texts this) args s ≡ answering at first second (content h.texts f) (content h.texts this) args s → s.ticks ≡ left → (left == 0) ≡ false
       → which ≡ chosen at first second (content h.texts f) → content h.texts v ≡ answer which (content h.texts this) → after (record s { objects = with_array s.objects; ticks = s.ticks - 1 })
-      → Tells after k.texts (ShowsValue k.texts) (Ok v) (m (content h.texts f) (content h.texts this) args s)
-  answered f this v args left at first second which m after s told ticks some which_is shown stands =
+      → Tells after stopped k.texts (ShowsValue k.texts) (Ok v) (m (content h.texts f) (content h.texts this) args s)
+  answered f this v args left at first second which m after stopped s told ticks some which_is shown stands =
       let given = answer (chosen at first second (content h.texts f)) (content h.texts this) in
       let left_over : State = record s { objects = with_array s.objects; ticks = s.ticks - 1 } in
       let no : (s.ticks == 0) ≡ false = ap (λ t. t == 0) ticks ∙ some in
       let outcome : m (content h.texts f) (content h.texts this) args s ≡ Gives given left_over = told ∙ ap (λ b. if b then Spent s else Gives given left_over) no in
-      subst (Tells after k.texts (ShowsValue k.texts) (Ok v)) (sym outcome)
+      subst (Tells after stopped k.texts (ShowsValue k.texts) (Ok v)) (sym outcome)
       (ap (λ (m : Heap). content m.texts v) is ∙ shown ∙ ap (λ w. answer w (content h.texts this)) which_is, stands)

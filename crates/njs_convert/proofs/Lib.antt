@@ -1,5 +1,6 @@
 mod Answering
 mod Lookups
+pub mod Stopped
 mod Outcomes
 mod Messages
 mod Grown

@@ -1,5 +1,5 @@
 -- What is read of a heap, read by content.
-use Rattle.std.proofs.Common.{◌≡◌, ℕ, List, [], Option, Some, Bool, false, cond, ap, refl, sym, ◌∙◌, slice_get}
+use Rattle.std.proofs.Common.{◌≡◌, ℕ, List, [], Some, Bool, false, cond, ap, refl, sym, ◌∙◌, slice_get}
 use Rattle.std.specs.Option.{option_map, option_map_or}
 use Rattle.std.proofs.lemmas.Option.{slice_get-map}
 use Rattle.njs_value.specs.declared.Value.{Value}

@@ -1,5 +1,5 @@
 -- How an answer tells the outcome of the definition, and what every call leaves.
-use Rattle.std.specs.Prelude.{◌≡◌, ◌≤◌, ◌<◌, ◌+◌, false, Option, ℕ, ℤ, List, [], ◌∷◌, ◌++◌, length, map, slice_index_or, codes, Result, Ok, Err}
+use Rattle.std.specs.Prelude.{◌≡◌, ◌≤◌, ◌<◌, ◌+◌, false, Option, ℕ, ℤ, List, [], ◌∷◌, ◌++◌, length, map, slice_index_or, slice_get, Some, codes, Result, Ok, Err}
 use Rattle.std.specs.List.{AllByRecursion}
 use Rattle.std.specs.Option.{ForSome}
 use Rattle.njs_value.specs.declared.Cause.{Cause}
@@ -9,13 +9,15 @@ use Rattle.njs_value.specs.declared.Value.{Value}
 use Rattle.njs_value.specs.declared.Value.TheVariants.{Obj}
 use Rattle.njs_shared.specs.declared.object.Inner.{Inner}
 use Rattle.njs_shared.specs.declared.object.Inner.TheVariants.{Plain, Script, BuiltIn, Bound, ZoneNumber}
-use Rattle.njs_shared.specs.Heap.{Heap, Sizes}
+use Rattle.njs_shared.specs.declared.object.Scope.{Scope}
+use Rattle.njs_shared.specs.Heap.{Heap, HeapObject, Sizes}
 use Rattle.njs_shared.specs.Fits.{FitsValue}
 use Rattle.njs_clone.specs.Content.{content}
 use Rattle.njs_meaning.specs.Primitives.{Primitive}
 use Rattle.njs_meaning.specs.Numbers.{number_of}
 use Rattle.njs_meaning.specs.Values.{PlainValue, Simple}
 use Rattle.njs_meaning.specs.State.{State, Outcome, Gives, Throws, Spent}
+use Rattle.njs_meaning.specs.Replies.{state_of}
 use Rattle.njs_meaning.specs.Errors.{hidden, error_with, prototype_of, name_of, message_of}
 use Rattle.njs_convert.specs.declared.stop.Stop.{Stop}
 use Rattle.njs_convert.specs.declared.stop.Stop.TheVariants.{Throw, Fuel, NoMemory}
@@ -39,22 +41,50 @@ ShowsNumber n m = n ≡ m
 abbrev pub ShowsText : List (List ℕ) → TextId → List ℕ → Type 0
 ShowsText texts t text = text_at texts t ≡ text
 
--- an answer tells an outcome, where `stands` holds of the states that the machine stands for then. Want of memory is free
-abbrev pub Tells : {V A : Type 0} → (State → Type 0) → List (List ℕ) → (V → A → Type 0) → Result V Stop → Outcome A → Type 0
-Tells stands texts shows (Ok v) (Gives a s) = shows v a × stands s
-Tells stands texts shows (Err (Throw v)) (Throws w s) = (content texts v ≡ w) × stands s
-Tells stands texts shows (Err Fuel) (Spent s) = stands s
-Tells stands texts shows (Err NoMemory) o = Unit {0}
-Tells stands texts shows r o = ⊥
+-- an answer tells an outcome, where `stands` holds of the states that the machine stands for then, and `stopped` of the state
+-- in which the definition ended where memory was wanted
+abbrev pub Tells : {V A : Type 0} → (State → Type 0) → (State → Type 0) → List (List ℕ) → (V → A → Type 0) → Result V Stop → Outcome A → Type 0
+Tells stands stopped texts shows (Ok v) (Gives a s) = shows v a × stands s
+Tells stands stopped texts shows (Err (Throw v)) (Throws w s) = (content texts v ≡ w) × stands s
+Tells stands stopped texts shows (Err Fuel) (Spent s) = stands s
+Tells stands stopped texts shows (Err NoMemory) o = stopped (state_of o)
+Tells stands stopped texts shows r o = ⊥
 
 -- from each state that the machine stood for, the answer tells what the definition gives
-pub record Means {V A : Type 0} (before after : State → Type 0) (texts : List (List ℕ)) (shows : V → A → Type 0) (r : Result V Stop) (meaning : State → Outcome A) : Type 0 where
-  pub by : (s : State) → before s → Tells after texts shows r (meaning s)
+pub record Means {V A : Type 0} (before after stopped : State → Type 0) (texts : List (List ℕ)) (shows : V → A → Type 0) (r : Result V Stop) (meaning : State → Outcome A) : Type 0 where
+  pub by : (s : State) → before s → Tells after stopped texts shows r (meaning s)
 
--- no fewer objects and scopes, and the texts that were there are there
+-- states that are the same but for what a host keeps
+pub record SameButHost (s t : State) : Type 0 where
+  pub objects : t.objects ≡ s.objects
+  pub scopes : t.scopes ≡ s.scopes
+  pub ticks : t.ticks ≡ s.ticks
+
+-- a scope with the same scope around it and as many slots
+pub record SameShape (scope : Scope) (scopes : List Scope) (at : ℕ) : Type 0 where
+  pub now : Scope
+  pub there : slice_get scopes at ≡ Some now
+  pub parent : now.parent ≡ scope.parent
+  pub slots : length now.slots ≡ length scope.slots
+
+-- an object that is the same beside its properties
+pub record SameInner (object : HeapObject) (objects : List HeapObject) (at : ℕ) : Type 0 where
+  pub now : HeapObject
+  pub there : slice_get objects at ≡ Some now
+  pub inner : now.inner ≡ object.inner
+
+-- what of a caller no call changes: the references that it works over, by their names, and how many slots each function of
+-- each module counts on in the scopes around it
+pub record Lent : Type 0 where
+  pub names : List ℕ
+  pub counts : ℕ → ℕ → Option (List ℕ)
+
+-- no fewer objects and scopes, each as it is beside its properties and values, and the texts that were there are there
 pub record Grows (old new : Heap) : Type 0 where
   pub objects : length old.objects ≤ length new.objects
   pub scopes : length old.scopes ≤ length new.scopes
+  pub shapes : (at : ℕ) (scope : Scope) → slice_get old.scopes at ≡ Some scope → SameShape scope new.scopes at
+  pub inner : (at : ℕ) (object : HeapObject) → slice_get old.objects at ≡ Some object → SameInner object new.objects at
   pub more : List (List ℕ)
   pub texts : new.texts ≡ old.texts ++ more
 

@@ -9,7 +9,7 @@ use Rattle.njs_clone.specs.StandsFor.{plain_objects}
 use Rattle.njs_meaning.specs.Primitives.{Primitive, Undefined, Null, Truth, Number}
 use Rattle.njs_meaning.specs.Values.{Simple}
 use Rattle.njs_meaning.specs.Numbers.{text_of}
-use Rattle.njs_convert.specs.Tells.{text_at, Extends}
+use Rattle.njs_convert.specs.Tells.{text_at}
 
 -- no text and no object
 abbrev pub IsShown : Value → Type 0

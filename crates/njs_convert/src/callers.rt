@@ -1,10 +1,11 @@
 // Two callers, by which every conversion is tried: the calls of one throw null, and those of the other change the heap.
-ghost use Rattle.std.specs.Prelude.{◌≡◌, ◌==◌, [], List, ℕ, map, refl, OnOk, OnErr};
+ghost use Rattle.std.specs.Prelude.{◌≡◌, ◌==◌, [], List, ℕ, map, refl, OnOk, OnErr, None};
+ghost use Rattle.std.proofs.Common.{◌∙◌};
 ghost use Rattle.njs_shared.specs.Heap.{Sizes};
 ghost use Rattle.njs_shared.specs.Fits.{FitsValue};
 ghost use Rattle.njs_clone.specs.Content.{content};
 ghost use Rattle.njs_clone.specs.StandsFor.{plain_objects};
-ghost use Rattle.njs_meaning.specs.Primitives.{Null};
+ghost use Rattle.njs_meaning.specs.Primitives.{Null, Undefined};
 ghost use Rattle.njs_meaning.specs.Values.{PlainValue, Simple};
 ghost use Rattle.njs_meaning.specs.State.{State, Throws};
 ghost use Rattle.njs_convert.specs.Answering.{answer, chosen, answering, OneEach, none_added, added_on};
@@ -24,9 +25,13 @@ pub struct Throwing {
 }
 
 impl<L: Ledger> Caller<L> for Throwing {
-    ghost stands = { λ c h s. (s.objects ≡ plain_objects h) × (s.ticks ≡ c.left) × (s.log ≡ []) };
+    ghost stands = { λ c k h s. (s.objects ≡ plain_objects h) × (s.ticks ≡ c.left) × (s.log ≡ []) };
 
-    ghost follows = { λ c m. (f this : PlainValue) (args : List PlainValue) (s : State) → m f this args s ≡ Throws (Simple Null) s };
+    ghost follows = { λ c k calls. ((f this : PlainValue) (args : List PlainValue) (s : State) → calls.call f this args s ≡ Throws (Simple Null) s) × ((f : PlainValue) (args : List PlainValue) (s : State) → calls.construct f args s ≡ Throws (Simple Null) s) };
+
+    ghost agrees = { λ c k. Unit {0} };
+
+    ghost stopped = { λ c k s. Unit {0} };
 
     ghost log = { λ c. [] };
 
@@ -36,7 +41,7 @@ impl<L: Ledger> Caller<L> for Throwing {
 
     ghost fits = { λ c h. Unit {0} };
 
-    ghost lent = { λ c. [] };
+    ghost lent = { λ c. record { names = []; counts = λ unit number. None } };
 
     ghost adds = { λ c n d k. OneEach n c.left k d.left };
 
@@ -56,6 +61,17 @@ impl<L: Ledger> Caller<L> for Throwing {
         Err(Stop::Throw(Value::Null))
     }
 
+    fn construct(
+        &mut self,
+        _alloc: Global,
+        _machine: &mut Machine<'_>,
+        _callee: Value,
+        _args: &[Value],
+        _steps: &mut Steps<L>,
+    ) -> Result<Value, Stop> {
+        Err(Stop::Throw(Value::Null))
+    }
+
     fn charge(&mut self, ticks: u64) -> Result<(), Stop> {
         if self.left < ticks {
             return Err(Stop::Fuel);
@@ -68,15 +84,23 @@ impl<L: Ledger> Caller<L> for Throwing {
         Err(Stop::NoMemory)
     }
 
-    ghost objects_are = { λ c h s stands. stands.0 };
+    ghost objects_are = { λ c k h s stands. stands.0 };
 
-    ghost ticks_are = { λ c h s stands. stands.1 };
+    ghost ticks_are = { λ c k h s stands. stands.1 };
 
-    ghost log_is = { λ c h s stands. stands.2 };
+    ghost log_is = { λ c k h s stands. stands.2 };
 
-    ghost stands_on = { λ c h k s stands extends. (refl, stands.1, stands.2) };
+    ghost stands_on = { λ c k h l s stands extends. (refl, stands.1, stands.2) };
 
-    ghost fits_on = { λ c h k fits extends. tt };
+    ghost stops = { λ c k h s stands. tt };
+
+    ghost stopped_as = { λ c k s t zones asked stopped. tt };
+
+    ghost stopped_calls = { λ c k calls follows f this args s stopped. tt };
+
+    ghost stopped_new = { λ c k calls follows f args s stopped. tt };
+
+    ghost fits_on = { λ c h l fits extends. tt };
 
     ghost adds_none = { λ c n. none_added n c.left };
 
@@ -140,9 +164,13 @@ impl Answering {
 }
 
 impl<L: Ledger> Caller<L> for Answering {
-    ghost stands = { λ c h s. (s.objects ≡ plain_objects h) × (s.ticks ≡ c.left) × (s.log ≡ map (λ n. record { level = n.level; text = n.text }) c.host.notes) };
+    ghost stands = { λ c k h s. (s.objects ≡ plain_objects h) × (s.ticks ≡ c.left) × (s.log ≡ map (λ n. record { level = n.level; text = n.text }) c.host.notes) };
 
-    ghost follows = { λ c m. (f this : PlainValue) (args : List PlainValue) (s : State) → m f this args s ≡ answering c.at c.first c.second f this args s };
+    ghost follows = { λ c k calls. ((f this : PlainValue) (args : List PlainValue) (s : State) → calls.call f this args s ≡ answering c.at c.first c.second f this args s) × ((f : PlainValue) (args : List PlainValue) (s : State) → calls.construct f args s ≡ answering c.at c.first c.second f (Simple Undefined) args s) };
+
+    ghost agrees = { λ c k. Unit {0} };
+
+    ghost stopped = { λ c k s. Unit {0} };
 
     ghost log = { λ c. map (λ n. record { level = n.level; text = n.text }) c.host.notes };
 
@@ -152,7 +180,7 @@ impl<L: Ledger> Caller<L> for Answering {
 
     ghost fits = { λ c h. Unit {0} };
 
-    ghost lent = { λ c. [] };
+    ghost lent = { λ c. record { names = []; counts = λ unit number. None } };
 
     ghost adds = { λ c n d k. OneEach n c.left k d.left };
 
@@ -181,6 +209,17 @@ impl<L: Ledger> Caller<L> for Answering {
         Ok(answer(self.chosen(callee), this))
     }
 
+    fn construct(
+        &mut self,
+        alloc: Global,
+        machine: &mut Machine<'_>,
+        callee: Value,
+        args: &[Value],
+        steps: &mut Steps<L>,
+    ) -> Result<Value, Stop> {
+        self.call(alloc, machine, callee, Value::Undefined, args, steps)
+    }
+
     fn charge(&mut self, ticks: u64) -> Result<(), Stop> {
         if self.left < ticks {
             return Err(Stop::Fuel);
@@ -199,15 +238,23 @@ impl<L: Ledger> Caller<L> for Answering {
         }
     }
 
-    ghost objects_are = { λ c h s stands. stands.0 };
+    ghost objects_are = { λ c k h s stands. stands.0 };
 
-    ghost ticks_are = { λ c h s stands. stands.1 };
+    ghost ticks_are = { λ c k h s stands. stands.1 };
 
-    ghost log_is = { λ c h s stands. stands.2 };
+    ghost log_is = { λ c k h s stands. stands.2 };
 
-    ghost stands_on = { λ c h k s stands extends. (refl, stands.1, stands.2) };
+    ghost stands_on = { λ c k h l s stands extends. (refl, stands.1, stands.2) };
 
-    ghost fits_on = { λ c h k fits extends. tt };
+    ghost stops = { λ c k h s stands. tt };
+
+    ghost stopped_as = { λ c k s t zones asked stopped. tt };
+
+    ghost stopped_calls = { λ c k calls follows f this args s stopped. tt };
+
+    ghost stopped_new = { λ c k calls follows f args s stopped. tt };
+
+    ghost fits_on = { λ c h l fits extends. tt };
 
     ghost adds_none = { λ c n. none_added n c.left };
 
@@ -220,6 +267,12 @@ impl<L: Ledger> HostCaller<Tally, L> for Answering {
     ghost host_of = { λ c. c.host };
 
     ghost with_host = { λ c h. record c { host = h } };
+
+    ghost keeps = { λ h k s. s.log ≡ map (λ n. record { level = n.level; text = n.text }) h.notes };
+
+    ghost agreed = { λ h k. Unit {0} };
+
+    ghost halted = { λ h k s. Unit {0} };
 
     ghost same_zones = { λ h k. Unit {0} };
 
@@ -241,13 +294,19 @@ impl<L: Ledger> HostCaller<Tally, L> for Answering {
 
     ghost lent_with = { λ c h. refl };
 
-    ghost follows_with = { λ c h m told. told };
+    ghost follows_with = { λ c h k m told. told };
 
     ghost may_call_with = { λ c h may. may };
 
-    ghost fits_with = { λ c h k same fits. fits };
+    ghost fits_with = { λ c h l same fits. fits };
 
-    ghost stands_with = { λ c h k s stands. (stands.0, stands.1, refl) };
+    ghost host_keeps = { λ c k h s stands. stands.2 };
+
+    ghost stands_with = { λ c host k h s t stands same keeps. (same.objects ∙ stands.0, same.ticks ∙ stands.1, keeps) };
+
+    ghost host_agrees = { λ c k. (λ agrees. tt, λ agreed. tt) };
+
+    ghost host_stopped = { λ c k s. (λ stopped. tt, λ halted. tt) };
 
     ghost adds_with = { λ c h n. none_added n c.left };
 }

@@ -3,7 +3,8 @@ ghost use Rattle.std.specs.Prelude.{◌≡◌, ◌≤◌, ◌<◌, length};
 ghost use Rattle.njs_shared.specs.Heap.{sizes};
 ghost use Rattle.njs_shared.specs.Fits.{FitsValue};
 ghost use Rattle.njs_clone.specs.Content.{content};
-ghost use Rattle.njs_meaning.specs.State.{Call};
+ghost use Rattle.njs_meaning.specs.Running.{Calls};
+ghost use Rattle.njs_meaning.specs.Replies.{Known};
 ghost use Rattle.njs_meaning.specs.Errors.{first_count};
 ghost use Rattle.njs_meaning.specs.Conversions.{to_boolean, is_callable, first_method, second_method, tried};
 ghost use Rattle.njs_clone.specs.StandsFor.{plain_objects};
@@ -91,13 +92,15 @@ pub fn tried<C: Caller<L>, L: Ledger>(
     requires fits { C.fits caller.old machine.old }
     requires first { first_count ≤ length machine.old.objects }
     requires object { object.0 < length machine.old.objects }
-    ensures told { (m : Call) → C.follows caller.old m → Means (C.stands caller.old machine.old) (C.stands caller.new machine.new) machine.new.texts (ShowsValue machine.new.texts) result (tried m name.now object.0) }
-    ensures kept { (m : Call) → C.follows caller.old m → C.follows caller.new m }
+    ensures told { (calls : Calls) (k : Known) → C.follows caller.old k calls → C.agrees caller.new k → Means (C.stands caller.old k machine.old) (C.stands caller.new k machine.new) (C.stopped caller.new k) machine.new.texts (ShowsValue machine.new.texts) result (tried calls.call name.now object.0) }
+    ensures kept { (calls : Calls) (k : Known) → C.follows caller.old k calls → C.follows caller.new k calls }
+    ensures agrees { (k : Known) → C.agrees caller.new k → C.agrees caller.old k }
     ensures may { C.may_call caller.new }
     ensures fits { C.fits caller.new machine.new }
     ensures same { C.lent caller.new ≡ C.lent caller.old }
     ensures grows { Grows machine.old machine.new }
     ensures value { FitsAnswer (FitsValue (sizes machine.new)) (sizes machine.new) result }
+    ensures spent { C.ticks_of caller.new ≤ C.ticks_of caller.old }
     ensures steps { C.adds caller.old steps.old caller.new steps.new }
 {
     let method = machine.get(object, name);

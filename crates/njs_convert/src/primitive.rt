@@ -4,7 +4,8 @@ ghost use Rattle.njs_value.specs.Number.{IsSafe};
 ghost use Rattle.njs_shared.specs.Heap.{sizes};
 ghost use Rattle.njs_shared.specs.Fits.{FitsValue};
 ghost use Rattle.njs_clone.specs.Content.{content};
-ghost use Rattle.njs_meaning.specs.State.{Call};
+ghost use Rattle.njs_meaning.specs.Running.{Calls};
+ghost use Rattle.njs_meaning.specs.Replies.{Known};
 ghost use Rattle.njs_meaning.specs.Errors.{first_count};
 ghost use Rattle.njs_meaning.specs.Conversions.{by_second, by_methods, to_primitive};
 ghost use Rattle.njs_convert.specs.Tells.{Means, Counts, ShowsPrimitive, Grows, FitsAnswer, FitsSimple};
@@ -30,13 +31,15 @@ fn by_second<C: Caller<L>, L: Ledger>(
     requires fits { C.fits caller.old machine.old }
     requires first { first_count ≤ length machine.old.objects }
     requires object { object.0 < length machine.old.objects }
-    ensures told { (m : Call) → C.follows caller.old m → Means (C.stands caller.old machine.old) (C.stands caller.new machine.new) machine.new.texts (ShowsPrimitive machine.new.texts) result (by_second m hint object.0) }
-    ensures kept { (m : Call) → C.follows caller.old m → C.follows caller.new m }
+    ensures told { (calls : Calls) (k : Known) → C.follows caller.old k calls → C.agrees caller.new k → Means (C.stands caller.old k machine.old) (C.stands caller.new k machine.new) (C.stopped caller.new k) machine.new.texts (ShowsPrimitive machine.new.texts) result (by_second calls.call hint object.0) }
+    ensures kept { (calls : Calls) (k : Known) → C.follows caller.old k calls → C.follows caller.new k calls }
+    ensures agrees { (k : Known) → C.agrees caller.new k → C.agrees caller.old k }
     ensures may { C.may_call caller.new }
     ensures fits { C.fits caller.new machine.new }
     ensures same { C.lent caller.new ≡ C.lent caller.old }
     ensures grows { Grows machine.old machine.new }
     ensures value { FitsAnswer (FitsSimple (sizes machine.new)) (sizes machine.new) result }
+    ensures spent { C.ticks_of caller.new ≤ C.ticks_of caller.old }
     ensures steps { Counts (C.adds caller.old steps.old caller.new) steps.new result }
 {
     let given = match tried(alloc, caller, machine, object, &second_method(hint), steps) {
@@ -62,13 +65,15 @@ fn by_methods<C: Caller<L>, L: Ledger>(
     requires fits { C.fits caller.old machine.old }
     requires first { first_count ≤ length machine.old.objects }
     requires object { object.0 < length machine.old.objects }
-    ensures told { (m : Call) → C.follows caller.old m → Means (C.stands caller.old machine.old) (C.stands caller.new machine.new) machine.new.texts (ShowsPrimitive machine.new.texts) result (by_methods m hint object.0) }
-    ensures kept { (m : Call) → C.follows caller.old m → C.follows caller.new m }
+    ensures told { (calls : Calls) (k : Known) → C.follows caller.old k calls → C.agrees caller.new k → Means (C.stands caller.old k machine.old) (C.stands caller.new k machine.new) (C.stopped caller.new k) machine.new.texts (ShowsPrimitive machine.new.texts) result (by_methods calls.call hint object.0) }
+    ensures kept { (calls : Calls) (k : Known) → C.follows caller.old k calls → C.follows caller.new k calls }
+    ensures agrees { (k : Known) → C.agrees caller.new k → C.agrees caller.old k }
     ensures may { C.may_call caller.new }
     ensures fits { C.fits caller.new machine.new }
     ensures same { C.lent caller.new ≡ C.lent caller.old }
     ensures grows { Grows machine.old machine.new }
     ensures value { FitsAnswer (FitsSimple (sizes machine.new)) (sizes machine.new) result }
+    ensures spent { C.ticks_of caller.new ≤ C.ticks_of caller.old }
     ensures steps { Counts (C.adds caller.old steps.old caller.new) steps.new result }
 {
     let given = match tried(alloc, caller, machine, object, &first_method(hint), steps) {
@@ -95,13 +100,15 @@ pub fn to_primitive<C: Caller<L>, L: Ledger>(
     requires fits { C.fits caller.old machine.old }
     requires first { first_count ≤ length machine.old.objects }
     requires value { FitsValue (sizes machine.old) value }
-    ensures told { (m : Call) → C.follows caller.old m → Means (C.stands caller.old machine.old) (C.stands caller.new machine.new) machine.new.texts (ShowsPrimitive machine.new.texts) result (to_primitive m hint (content machine.old.texts value)) }
-    ensures kept { (m : Call) → C.follows caller.old m → C.follows caller.new m }
+    ensures told { (calls : Calls) (k : Known) → C.follows caller.old k calls → C.agrees caller.new k → Means (C.stands caller.old k machine.old) (C.stands caller.new k machine.new) (C.stopped caller.new k) machine.new.texts (ShowsPrimitive machine.new.texts) result (to_primitive calls.call hint (content machine.old.texts value)) }
+    ensures kept { (calls : Calls) (k : Known) → C.follows caller.old k calls → C.follows caller.new k calls }
+    ensures agrees { (k : Known) → C.agrees caller.new k → C.agrees caller.old k }
     ensures may { C.may_call caller.new }
     ensures fits { C.fits caller.new machine.new }
     ensures same { C.lent caller.new ≡ C.lent caller.old }
     ensures grows { Grows machine.old machine.new }
     ensures value { FitsAnswer (FitsSimple (sizes machine.new)) (sizes machine.new) result }
+    ensures spent { C.ticks_of caller.new ≤ C.ticks_of caller.old }
     ensures steps { Counts (C.adds caller.old steps.old caller.new) steps.new result }
 {
     match value {

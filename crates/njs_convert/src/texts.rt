@@ -3,7 +3,8 @@ ghost use Rattle.std.specs.Prelude.{◌≡◌, ◌≤◌, ◌<◌, ℕ, length, 
 ghost use Rattle.njs_shared.specs.Heap.{sizes};
 ghost use Rattle.njs_shared.specs.Fits.{FitsValue};
 ghost use Rattle.njs_clone.specs.Content.{content};
-ghost use Rattle.njs_meaning.specs.State.{Call};
+ghost use Rattle.njs_meaning.specs.Running.{Calls};
+ghost use Rattle.njs_meaning.specs.Replies.{Known};
 ghost use Rattle.njs_meaning.specs.Errors.{first_count};
 ghost use Rattle.njs_meaning.specs.Conversions.{to_text};
 ghost use Rattle.njs_convert.specs.Tells.{Means, Counts, ShowsText, Grows, Extends, FitsAnswer, FitsSimple, FitsText};
@@ -71,13 +72,15 @@ pub fn to_text<C: Caller<L>, L: Ledger>(
     requires fits { C.fits caller.old machine.old }
     requires first { first_count ≤ length machine.old.objects }
     requires value { FitsValue (sizes machine.old) value }
-    ensures told { (m : Call) → C.follows caller.old m → Means (C.stands caller.old machine.old) (C.stands caller.new machine.new) machine.new.texts (ShowsText machine.new.texts) result (to_text m (content machine.old.texts value)) }
-    ensures kept { (m : Call) → C.follows caller.old m → C.follows caller.new m }
+    ensures told { (calls : Calls) (k : Known) → C.follows caller.old k calls → C.agrees caller.new k → Means (C.stands caller.old k machine.old) (C.stands caller.new k machine.new) (C.stopped caller.new k) machine.new.texts (ShowsText machine.new.texts) result (to_text calls.call (content machine.old.texts value)) }
+    ensures kept { (calls : Calls) (k : Known) → C.follows caller.old k calls → C.follows caller.new k calls }
+    ensures agrees { (k : Known) → C.agrees caller.new k → C.agrees caller.old k }
     ensures may { C.may_call caller.new }
     ensures fits { C.fits caller.new machine.new }
     ensures same { C.lent caller.new ≡ C.lent caller.old }
     ensures grows { Grows machine.old machine.new }
     ensures value { FitsAnswer (FitsText (sizes machine.new)) (sizes machine.new) result }
+    ensures spent { C.ticks_of caller.new ≤ C.ticks_of caller.old }
     ensures steps { Counts (C.adds caller.old steps.old caller.new) steps.new result }
 {
     let primitive = match to_primitive(alloc, caller, machine, value, Hint::Text, steps) {

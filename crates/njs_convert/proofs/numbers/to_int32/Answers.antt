@@ -1,23 +1,24 @@
-use Rattle.std.proofs.Common.{◌≡◌, Ok, ℤ, ℕ, sym, ap, ◌∙◌, FitsSigned, w32, w64, to_z, of_z, rules}
+use Rattle.std.proofs.Common.{◌≡◌, Ok, ℤ, ap, ◌∙◌, FitsSigned, w32, w64, to_z, of_z, rules}
 use Rattle.std.proofs.lemmas.Int.{to_z-of_z}
 use Rattle.njs_clone.specs.Content.{content}
 use Rattle.njs_meaning.specs.Numbers.{signed_32}
 use Rattle.njs_meaning.specs.State.{Gives}
 use Rattle.njs_meaning.specs.Conversions.{to_number}
-use Rattle.njs_convert.specs.Tells.{Tells, ShowsNumber}
+use Rattle.njs_convert.specs.Tells.{ShowsNumber}
 use Rattle.njs_convert.proofs.Outcomes.{then_tells}
 use Rattle.njs_convert.proofs.numbers.to_int32.Goals as goal
 
 pub returns-in-Ok-clause-told : goal.returns-in-Ok-clause-told
-returns-in-Ok-clause-told g c = λ m f. record {
+returns-in-Ok-clause-told g c = λ calls known f agrees. record {
   by = λ s stands.
       let k = c.to_number.new.machine in
       let n = c.in-Ok.number in
-      let after = g.C.Caller.stands c.to_number.new.caller k in
+      let after = g.C.Caller.stands c.to_number.new.caller known k in
+      let stopped = g.C.Caller.stopped c.to_number.new.caller known in
       let fits : FitsSigned w64 n = search rules in
       let same : to_z w64 (of_z w64 n) ≡ n = to_z-of_z w64 n fits in
       let narrow : FitsSigned w32 c.signed_32.result = search rules in
       let is : c.signed_32.result ≡ signed_32 n = cc in
-      then_tells after after k.texts k.texts (ShowsNumber {N = ℤ}) (ShowsNumber {N = ℤ}) n (Ok (to_z w32 (of_z w32 c.signed_32.result))) (to_number m (content c.args.machine.now.texts c.args.value) s) (λ i t. Gives (signed_32 i) t) ((c.in-Ok.ensures.told m f).by s stands)
+      then_tells after after stopped stopped k.texts k.texts (ShowsNumber {N = ℤ}) (ShowsNumber {N = ℤ}) n (Ok (to_z w32 (of_z w32 c.signed_32.result))) (to_number calls.call (content c.args.machine.now.texts c.args.value) s) (λ i t. Gives (signed_32 i) t) ((c.in-Ok.ensures.told calls known f agrees).by s stands)
       (λ i t shows h. (to_z-of_z w32 c.signed_32.result narrow ∙ is ∙ ap signed_32 shows, h));
 }
