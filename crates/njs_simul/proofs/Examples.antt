@@ -12,6 +12,7 @@ use Rattle.njs_code.specs.declared.op.Kind.TheVariants as kind
 use Rattle.njs_code.specs.declared.op.Op.{Op}
 use Rattle.njs_simul.specs.EmissionOfStatements.{at_start}
 use Rattle.njs_simul.specs.Compiled.{statement}
+use Rattle.njs_simul.specs.Counts.{nodes_of_statement}
 
 abbrev on : ExprNode → Expr
 on n = roll-Expr (record { line = 1; node = n })
@@ -36,3 +37,20 @@ for_ever : kinds_of (step.For None None None (stands (step.Break None)))
     ≡ kind.Charge ∷ kind.Charge ∷ kind.Charge ∷ kind.Break None ∷ kind.EndBody [] (record { 0 = 0 }) ∷ kind.Jump (record { 0 = 5 }) ∷ []
 unfolding statement
 for_ever = grind (arith, the_lemmas)
+
+-- they have four nodes and eight operations, and two nodes and six operations
+sum_nodes : nodes_of_statement (stands (step.Expr (on (node.Binary sign.Add (number 1) (number 2))))) ≡ 4
+unfolding nodes_of_statement
+sum_nodes = grind (arith, the_lemmas)
+
+sum_size : ((statement (stands (step.Expr (on (node.Binary sign.Add (number 1) (number 2)))))).means 0).size ≡ 8
+unfolding statement
+sum_size = grind (arith, the_lemmas)
+
+for_nodes : nodes_of_statement (stands (step.For None None None (stands (step.Break None)))) ≡ 2
+unfolding nodes_of_statement
+for_nodes = grind (arith, the_lemmas)
+
+for_size : ((statement (stands (step.For None None None (stands (step.Break None))))).means 0).size ≡ 6
+unfolding statement
+for_size = grind (arith, the_lemmas)

@@ -40,3 +40,17 @@ pub mod ValidFunctions
 pub mod ValidParts
 pub mod ValidTrees
 pub mod ValidWhole
+pub mod Sizes
+pub mod SeenTrees
+pub mod AcceptedNodes
+pub mod AcceptedTrees
+pub mod AcceptedTokens
+pub mod Accepted
+pub mod AskingSteps
+pub mod AskingRuns
+pub mod AskingCalls
+pub mod AskingZones
+pub mod Asking
+pub mod CountedTrees
+pub mod SmallParts
+pub mod SmallTrees

@@ -56,7 +56,7 @@ member_there R (a ∷ xs) (b ∷ ys) t (suc at) x hx = member_there R xs ys t.1 
 member_there R [] (b ∷ ys) t at x hx = absurd t
 member_there R (a ∷ xs) [] t at x hx = absurd t
 
-mapped_from : {A B : Type 0} (f : A → B) (xs : List A) (at : ℕ) (y : B) → slice_get (map f xs) at ≡ Some y → (x : A) × (slice_get xs at ≡ Some x) × (f x ≡ y)
+pub mapped_from : {A B : Type 0} (f : A → B) (xs : List A) (at : ℕ) (y : B) → slice_get (map f xs) at ≡ Some y → (x : A) × (slice_get xs at ≡ Some x) × (f x ≡ y)
 mapped_from f [] at y h = absurd (cc)
 mapped_from f (x ∷ xs) zero y h = (x, refl, cc)
 mapped_from f (x ∷ xs) (suc at) y h = mapped_from f xs at y h

@@ -44,56 +44,56 @@ sound_statement = fold-Stmt Bool Bool Bool Bool Bool Bool Bool Bool node_sound f
 abbrev pub sound_node_of : ExprNode-F ExprNode ForFirst ForInHead StmtNode Case Expr FunctionTree Stmt → Bool
 sound_node_of x = node_sound (map-ExprNode ExprNode ForFirst ForInHead StmtNode Case Expr FunctionTree Stmt Bool Bool Bool Bool Bool Bool Bool Bool sound_node sound_first sound_head sound_statement_node sound_branch sound_expression sound_function sound_statement x)
 
-sound_node_rolled : (x : ExprNode-F ExprNode ForFirst ForInHead StmtNode Case Expr FunctionTree Stmt) → sound_node (roll-ExprNode x) ≡ sound_node_of x
+pub sound_node_rolled : (x : ExprNode-F ExprNode ForFirst ForInHead StmtNode Case Expr FunctionTree Stmt) → sound_node (roll-ExprNode x) ≡ sound_node_of x
 unfolding sound_node sound_first sound_head sound_statement_node sound_branch sound_expression sound_function sound_statement
 sound_node_rolled x = fold-roll-ExprNode Bool Bool Bool Bool Bool Bool Bool Bool node_sound first_sound head_sound statement_sound branch_sound expr_sound function_sound stmt_sound x
 
 abbrev pub sound_first_of : ForFirst-F ExprNode ForFirst ForInHead StmtNode Case Expr FunctionTree Stmt → Bool
 sound_first_of x = first_sound (map-ForFirst ExprNode ForFirst ForInHead StmtNode Case Expr FunctionTree Stmt Bool Bool Bool Bool Bool Bool Bool Bool sound_node sound_first sound_head sound_statement_node sound_branch sound_expression sound_function sound_statement x)
 
-sound_first_rolled : (x : ForFirst-F ExprNode ForFirst ForInHead StmtNode Case Expr FunctionTree Stmt) → sound_first (roll-ForFirst x) ≡ sound_first_of x
+pub sound_first_rolled : (x : ForFirst-F ExprNode ForFirst ForInHead StmtNode Case Expr FunctionTree Stmt) → sound_first (roll-ForFirst x) ≡ sound_first_of x
 unfolding sound_node sound_first sound_head sound_statement_node sound_branch sound_expression sound_function sound_statement
 sound_first_rolled x = fold-roll-ForFirst Bool Bool Bool Bool Bool Bool Bool Bool node_sound first_sound head_sound statement_sound branch_sound expr_sound function_sound stmt_sound x
 
 abbrev pub sound_head_of : ForInHead-F ExprNode ForFirst ForInHead StmtNode Case Expr FunctionTree Stmt → Bool
 sound_head_of x = head_sound (map-ForInHead ExprNode ForFirst ForInHead StmtNode Case Expr FunctionTree Stmt Bool Bool Bool Bool Bool Bool Bool Bool sound_node sound_first sound_head sound_statement_node sound_branch sound_expression sound_function sound_statement x)
 
-sound_head_rolled : (x : ForInHead-F ExprNode ForFirst ForInHead StmtNode Case Expr FunctionTree Stmt) → sound_head (roll-ForInHead x) ≡ sound_head_of x
+pub sound_head_rolled : (x : ForInHead-F ExprNode ForFirst ForInHead StmtNode Case Expr FunctionTree Stmt) → sound_head (roll-ForInHead x) ≡ sound_head_of x
 unfolding sound_node sound_first sound_head sound_statement_node sound_branch sound_expression sound_function sound_statement
 sound_head_rolled x = fold-roll-ForInHead Bool Bool Bool Bool Bool Bool Bool Bool node_sound first_sound head_sound statement_sound branch_sound expr_sound function_sound stmt_sound x
 
 abbrev pub sound_statement_node_of : StmtNode-F ExprNode ForFirst ForInHead StmtNode Case Expr FunctionTree Stmt → Bool
 sound_statement_node_of x = statement_sound (map-StmtNode ExprNode ForFirst ForInHead StmtNode Case Expr FunctionTree Stmt Bool Bool Bool Bool Bool Bool Bool Bool sound_node sound_first sound_head sound_statement_node sound_branch sound_expression sound_function sound_statement x)
 
-sound_statement_node_rolled : (x : StmtNode-F ExprNode ForFirst ForInHead StmtNode Case Expr FunctionTree Stmt) → sound_statement_node (roll-StmtNode x) ≡ sound_statement_node_of x
+pub sound_statement_node_rolled : (x : StmtNode-F ExprNode ForFirst ForInHead StmtNode Case Expr FunctionTree Stmt) → sound_statement_node (roll-StmtNode x) ≡ sound_statement_node_of x
 unfolding sound_node sound_first sound_head sound_statement_node sound_branch sound_expression sound_function sound_statement
 sound_statement_node_rolled x = fold-roll-StmtNode Bool Bool Bool Bool Bool Bool Bool Bool node_sound first_sound head_sound statement_sound branch_sound expr_sound function_sound stmt_sound x
 
 abbrev pub sound_branch_of : Case-F ExprNode ForFirst ForInHead StmtNode Case Expr FunctionTree Stmt → Bool
 sound_branch_of x = branch_sound (map-Case ExprNode ForFirst ForInHead StmtNode Case Expr FunctionTree Stmt Bool Bool Bool Bool Bool Bool Bool Bool sound_node sound_first sound_head sound_statement_node sound_branch sound_expression sound_function sound_statement x)
 
-sound_branch_rolled : (x : Case-F ExprNode ForFirst ForInHead StmtNode Case Expr FunctionTree Stmt) → sound_branch (roll-Case x) ≡ sound_branch_of x
+pub sound_branch_rolled : (x : Case-F ExprNode ForFirst ForInHead StmtNode Case Expr FunctionTree Stmt) → sound_branch (roll-Case x) ≡ sound_branch_of x
 unfolding sound_node sound_first sound_head sound_statement_node sound_branch sound_expression sound_function sound_statement
 sound_branch_rolled x = fold-roll-Case Bool Bool Bool Bool Bool Bool Bool Bool node_sound first_sound head_sound statement_sound branch_sound expr_sound function_sound stmt_sound x
 
 abbrev pub sound_expression_of : Expr-F ExprNode ForFirst ForInHead StmtNode Case Expr FunctionTree Stmt → Bool
 sound_expression_of x = expr_sound (map-Expr ExprNode ForFirst ForInHead StmtNode Case Expr FunctionTree Stmt Bool Bool Bool Bool Bool Bool Bool Bool sound_node sound_first sound_head sound_statement_node sound_branch sound_expression sound_function sound_statement x)
 
-sound_expression_rolled : (x : Expr-F ExprNode ForFirst ForInHead StmtNode Case Expr FunctionTree Stmt) → sound_expression (roll-Expr x) ≡ sound_expression_of x
+pub sound_expression_rolled : (x : Expr-F ExprNode ForFirst ForInHead StmtNode Case Expr FunctionTree Stmt) → sound_expression (roll-Expr x) ≡ sound_expression_of x
 unfolding sound_node sound_first sound_head sound_statement_node sound_branch sound_expression sound_function sound_statement
 sound_expression_rolled x = fold-roll-Expr Bool Bool Bool Bool Bool Bool Bool Bool node_sound first_sound head_sound statement_sound branch_sound expr_sound function_sound stmt_sound x
 
 abbrev pub sound_function_of : FunctionTree-F ExprNode ForFirst ForInHead StmtNode Case Expr FunctionTree Stmt → Bool
 sound_function_of x = function_sound (map-FunctionTree ExprNode ForFirst ForInHead StmtNode Case Expr FunctionTree Stmt Bool Bool Bool Bool Bool Bool Bool Bool sound_node sound_first sound_head sound_statement_node sound_branch sound_expression sound_function sound_statement x)
 
-sound_function_rolled : (x : FunctionTree-F ExprNode ForFirst ForInHead StmtNode Case Expr FunctionTree Stmt) → sound_function (roll-FunctionTree x) ≡ sound_function_of x
+pub sound_function_rolled : (x : FunctionTree-F ExprNode ForFirst ForInHead StmtNode Case Expr FunctionTree Stmt) → sound_function (roll-FunctionTree x) ≡ sound_function_of x
 unfolding sound_node sound_first sound_head sound_statement_node sound_branch sound_expression sound_function sound_statement
 sound_function_rolled x = fold-roll-FunctionTree Bool Bool Bool Bool Bool Bool Bool Bool node_sound first_sound head_sound statement_sound branch_sound expr_sound function_sound stmt_sound x
 
 abbrev pub sound_statement_of : Stmt-F ExprNode ForFirst ForInHead StmtNode Case Expr FunctionTree Stmt → Bool
 sound_statement_of x = stmt_sound (map-Stmt ExprNode ForFirst ForInHead StmtNode Case Expr FunctionTree Stmt Bool Bool Bool Bool Bool Bool Bool Bool sound_node sound_first sound_head sound_statement_node sound_branch sound_expression sound_function sound_statement x)
 
-sound_statement_rolled : (x : Stmt-F ExprNode ForFirst ForInHead StmtNode Case Expr FunctionTree Stmt) → sound_statement (roll-Stmt x) ≡ sound_statement_of x
+pub sound_statement_rolled : (x : Stmt-F ExprNode ForFirst ForInHead StmtNode Case Expr FunctionTree Stmt) → sound_statement (roll-Stmt x) ≡ sound_statement_of x
 unfolding sound_node sound_first sound_head sound_statement_node sound_branch sound_expression sound_function sound_statement
 sound_statement_rolled x = fold-roll-Stmt Bool Bool Bool Bool Bool Bool Bool Bool node_sound first_sound head_sound statement_sound branch_sound expr_sound function_sound stmt_sound x
 

@@ -9,3 +9,6 @@ pub mod Laws
 pub mod Program
 pub mod Checks
 pub mod Sound
+pub mod Sizes
+pub mod Asking
+pub mod Counts

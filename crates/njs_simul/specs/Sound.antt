@@ -7,6 +7,7 @@ use Rattle.njs_tree.specs.declared.tree.Expr.{Expr}
 use Rattle.njs_tree.specs.declared.tree.Stmt.{Stmt}
 use Rattle.njs_tree.specs.declared.tree.ExprNode.TheOpen.{ExprNode-F, ForFirst-F, ForInHead-F, StmtNode-F, Case-F, Expr-F, FunctionTree-F, Stmt-F}
 use Rattle.njs_tree.specs.declared.tree.ExprNode.TheFolds.{fold-Expr, fold-Stmt}
+use Rattle.njs_tree.specs.Accepted.{IsAccepted}
 use Rattle.njs_tree.specs.Early.{repeats}
 use Rattle.njs_code.specs.Valid.{is_safe, is_valid}
 use Rattle.njs_meaning.specs.Places.{Bindings}
@@ -127,3 +128,7 @@ is_sound script = are_sound script.items
 -- the code of sound scripts is valid
 abbrev pub SoundCode : Type 0
 SoundCode = (script : Script) (outermost : Bindings) → is_sound script ≡ true → is_valid (code_of script outermost) ≡ true
+
+-- and so is the code of accepted ones, which are sound
+abbrev pub AcceptedCode : Type 0
+AcceptedCode = (script : Script) (outermost : Bindings) → IsAccepted script → is_valid (code_of script outermost) ≡ true

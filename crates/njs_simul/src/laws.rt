@@ -1,6 +1,9 @@
 // Laws about the definitions, each the contract of a function that does nothing.
+ghost use Rattle.njs_simul.specs.Asking.{NothingMore, RepliesStay};
+ghost use Rattle.njs_simul.specs.Counts.{SmallCode};
 ghost use Rattle.njs_simul.specs.Program.{CodeMeans};
-ghost use Rattle.njs_simul.specs.Sound.{SoundCode};
+ghost use Rattle.njs_simul.specs.Sizes.{SizesAreTrue};
+ghost use Rattle.njs_simul.specs.Sound.{SoundCode, AcceptedCode};
 
 /// The code of scripts does what they mean (ECMA-262 5.1 §10.4, §11 to §14): whatever calls in it mean, a run of the code of a
 /// function or of a module's body ends in the outcome, and the state, that the definition of what scripts mean gives; and the
@@ -13,4 +16,36 @@ pub fn code_does_what_scripts_mean()
 /// parameters of one name.
 pub fn sound_scripts_have_valid_code()
     ensures { SoundCode }
+{}
+
+/// The code of a script is valid that some text spells and in which nothing is refused early (ECMA-262 5.1 §16), whatever the names
+/// of the outermost scope are: its numbers are safe by the grammar (§7.8.3), an array has no more elements than its text has
+/// characters, and a function with two parameters of one name is refused (§13.1).
+pub fn accepted_scripts_have_valid_code()
+    ensures { AcceptedCode }
+{}
+
+/// What is written for a part of a tree stands in front of what stands behind it, which stays, and has as many operations as its
+/// size says: for every expression, statement, list of statements, function body and module body. So code has more operations than
+/// a bound exactly where its size is greater.
+pub fn writing_keeps_what_stands_behind()
+    ensures { SizesAreTrue }
+{}
+
+/// The code of a script has at most 16 operations for each expression and statement of its tree, and two more: that of all its
+/// functions and of its body together. So a script of at most 262,144 nodes has code of at most 2^24 operations.
+pub fn sizes_are_small()
+    ensures { SmallCode }
+{}
+
+/// Once no dictionary has a reply that is still to come, no further call on one is answered, and it stays so: of every run of code
+/// whose calls and built-in functions are so, and of every call of a program, however many calls may be active.
+pub fn stopped_runs_answer_nothing_more()
+    ensures { NothingMore }
+{}
+
+/// The replies that were given and those that are still to come are together the same at the end of a run as at its start, where
+/// the built-in functions keep them.
+pub fn runs_keep_their_replies()
+    ensures { RepliesStay }
 {}
