@@ -2,11 +2,12 @@
 use Rattle.std.proofs.Common.{◌≡◌, ◌++◌, Some, sym, ap, subst, ◌∙◌, slice_get}
 use Rattle.njs_meaning.specs.State.{State}
 use Rattle.njs_meaning.specs.Replies.{replies_of, IsExhausted}
-use Rattle.njs_simul.specs.Asking.{Quiet, KeepsReplies, RunsEnd, ProgramEnds, NothingMore, RepliesStay}
+use Rattle.njs_simul.specs.Asking.{Quiet, KeepsReplies, RunsEnd, ProgramEnds, AlwaysEnds, SaysOfDictionaries, Holding, KeepsEverywhere, NothingMore, RepliesStay}
 use Rattle.njs_simul.proofs.AskingSteps.{IsThrough}
 use Rattle.njs_simul.proofs.AskingZones.{quiet_asks, replies_asks}
 use Rattle.njs_simul.proofs.AskingRuns.{run_to}
 use Rattle.njs_simul.proofs.AskingCalls.{calls_end}
+use Rattle.njs_simul.proofs.AlwaysCalls.{calls_always_end, to_run_module}
 
 exhausted_same : (s t : State) → t.zones ≡ s.zones → IsExhausted s → IsExhausted t
 exhausted_same s t zones h = record { each = λ zone z is. h.each zone z (subst (λ zs. slice_get zs zone ≡ Some z) zones is) }
@@ -32,8 +33,15 @@ runs_end R through env frame code outcome rest st s fare ends run = run_to R thr
 program_ends : (R : State → State → Type 0) → IsThrough R → ProgramEnds R
 program_ends R through scripts outermost program same fares answers n = calls_end R through scripts outermost program same fares answers n
 
+-- from every state
+pub always_ends : (R : State → State → Type 0) → IsThrough R → AlwaysEnds R
+always_ends R through = (λ scripts program same answers n. calls_always_end R through scripts program same answers n, λ calls ends unit script s. to_run_module R through calls ends unit script s)
+
+pub keeps_everywhere : (P : State → Type 0) → SaysOfDictionaries P → KeepsEverywhere P
+keeps_everywhere P stays = always_ends (Holding P) (record { same = λ s t zones asked h. stays s t zones asked h; join = λ s t u a b h. b (a h) })
+
 pub nothing_more : NothingMore
-nothing_more = (λ zone op go s next. quiet_asks zone op go s next, runs_end Quiet quiet_through, program_ends Quiet quiet_through)
+nothing_more = (λ zone op go s next. quiet_asks zone op go s next, runs_end Quiet quiet_through, program_ends Quiet quiet_through, always_ends Quiet quiet_through)
 
 pub replies_stay : RepliesStay
-replies_stay = (λ zone op go s next. replies_asks zone op go s next, runs_end KeepsReplies replies_through, program_ends KeepsReplies replies_through)
+replies_stay = (λ zone op go s next. replies_asks zone op go s next, runs_end KeepsReplies replies_through, program_ends KeepsReplies replies_through, always_ends KeepsReplies replies_through)

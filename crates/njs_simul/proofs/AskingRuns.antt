@@ -18,7 +18,7 @@ use Rattle.njs_simul.specs.Step.{Action, Goes, Ends, Leads, Stuck, on_top, on_tw
 use Rattle.njs_simul.specs.Runs.{Runs, LeadsOut}
 use Rattle.njs_simul.specs.Fits.{Names, Good, CallsFare}
 use Rattle.njs_simul.specs.Asking.{CallsEnd}
-use Rattle.njs_simul.proofs.AskingSteps.{IsThrough, To, stays, to_charge, to_with_members, to_put_member, to_delete_member, to_fails, to_defined, to_stepped_from, to_function, to_number_ends, to_binary, to_unary, to_member_by}
+use Rattle.njs_simul.proofs.AskingSteps.{IsThrough, To, Lands, fared_lands, stays, to_charge, to_with_members, to_put_member, to_delete_member, to_fails, to_defined, to_stepped_from, to_function, to_number_ends, to_binary, to_unary, to_member_by}
 
 module _ (R : State → State → Type 0) (through : IsThrough R) where
   -- what an operation does ends so
@@ -70,6 +70,9 @@ module _ (R : State → State → Type 0) (through : IsThrough R) where
   resumed_to rest (Thrown v) st s = stays R through s
 
   module _ (env : Names) (frame : Frame) (code : List Op) (fare : CallsFare env frame.calls) (ends : CallsEnd R env frame.calls) where
+    lands : (f this : PlainValue) (args : List PlainValue) (s : State) → Good env s → Lands R through (Good env) (frame.calls.call f this args s)
+    lands f this args s g = fared_lands R through env s (frame.calls.call f this args s) (fare.call f this args s g)
+
     act_to : (k : Kind) (rest : List Op) (st : Stacks) (s : State) → Good env s → ActsTo s (act frame code k rest st s)
     act_to kind.Charge rest st s g = on_to s (charge 1 (Gives true) s) st _ (to_charge R through 1 (Gives true) s (λ t is. stays R through t)) (λ paid t h. h)
     act_to kind.Undefined rest st s g = stays R through s
@@ -85,7 +88,7 @@ module _ (R : State → State → Type 0) (through : IsThrough R) where
     act_to (kind.Fail f) rest st s g = finish_to s rest st (fails f s) (to_fails R through f s)
     act_to kind.Base rest st s g = top_to s st.operands _ (λ v vs. finish_to s rest (with_operands st vs) (with_members v (Gives v) s) (to_with_members R through v (Gives v) s (stays R through s)))
     act_to kind.Key rest st s g =
-        two_to s st.operands _ (λ base key vs. on_to s (member_by base key (context frame st) s) st _ (to_member_by R through env (context frame st) fare.call ends.call base key s g) (λ r t h. h))
+        two_to s st.operands _ (λ base key vs. on_to s (member_by base key (context frame st) s) st _ (to_member_by R through (Good env) (context frame st) lands ends.call base key s g) (λ r t h. h))
     act_to kind.Get rest st s g = two_to s st.operands _ (λ base name vs. stays R through s)
     act_to kind.GetKept rest st s g = two_to s st.operands _ (λ base name vs. stays R through s)
     act_to kind.Method rest st s g = two_to s st.operands _ (λ base name vs. stays R through s)
@@ -94,11 +97,11 @@ module _ (R : State → State → Type 0) (through : IsThrough R) where
     act_to kind.DeleteMember rest st s g =
         two_to s st.operands _ (λ base name vs. finish_to s rest (with_operands st vs) (delete_member (name_in name) base s) (to_delete_member R through (name_in name) base s))
     act_to (kind.Binary op) rest st s g =
-        two_to s st.operands _ (λ a b vs. finish_to s rest (with_operands st vs) (binary frame.calls.call op a b s) (to_binary R through env frame.calls.call fare.call ends.call op a b s g))
+        two_to s st.operands _ (λ a b vs. finish_to s rest (with_operands st vs) (binary frame.calls.call op a b s) (to_binary R through (Good env) frame.calls.call lands ends.call op a b s g))
     act_to (kind.Unary op) rest st s g =
-        top_to s st.operands _ (λ v vs. finish_to s rest (with_operands st vs) (unary frame.calls.call op v s) (to_unary R through env frame.calls.call fare.call ends.call op v s g))
+        top_to s st.operands _ (λ v vs. finish_to s rest (with_operands st vs) (unary frame.calls.call op v s) (to_unary R through (Good env) frame.calls.call lands ends.call op v s g))
     act_to kind.ToNumber rest st s g =
-        top_to s st.operands _ (λ v vs. on_to s (to_number frame.calls.call v s) st _ (to_number_ends R through env frame.calls.call fare.call ends.call v s g) (λ n t h. h))
+        top_to s st.operands _ (λ v vs. on_to s (to_number frame.calls.call v s) st _ (to_number_ends R through (Good env) frame.calls.call lands ends.call v s g) (λ n t h. h))
     act_to (kind.Step op) rest st s g = top_to s st.operands _ (λ v vs. finish_to s rest (with_operands st vs) (stepped_from op v s) (to_stepped_from R through op v s))
     act_to (kind.Tuck under) rest st s g = top_to s st.operands _ (λ v vs. stays R through s)
     act_to kind.Drop rest st s g = top_to s st.operands _ (λ v vs. stays R through s)

@@ -1,5 +1,5 @@
 -- What conversions, operators, members and functions leave of the dictionaries: only the calls in them reach those.
-use Rattle.std.proofs.Common.{◌≡◌, ℕ, ◌-◌, List, [], ◌∷◌, length, Bool, true, false, not, if◌then◌else◌, codes, is_some, refl, sym, subst, arith, Option, Some, None, nat_lt}
+use Rattle.std.proofs.Common.{◌≡◌, ℕ, ℤ, ◌-◌, List, [], ◌∷◌, length, Bool, true, false, not, if◌then◌else◌, codes, is_some, refl, sym, subst, arith, Option, Some, None, nat_lt}
 use Rattle.std.specs.Prelude.{Ok, Err}
 use Rattle.std.specs.Option.{option_map_or}
 use Rattle.njs_tree.specs.declared.tree.BinaryOp.{BinaryOp}
@@ -35,8 +35,7 @@ use Rattle.njs_meaning.specs.Meaning.{Made, member_by, function, function_named,
 use Rattle.njs_meaning.specs.Replies.{state_of}
 use Rattle.njs_simul.specs.Step.{fails, defined, stepped_from}
 use Rattle.njs_simul.specs.Fits.{Names, Good, Fares, Fared}
-use Rattle.njs_simul.proofs.Kept.{fares_refl, fares_less}
-use Rattle.njs_simul.proofs.FineSteps.{CallFares, fared_tried, fared_primitive, fared_number, fared_with_members}
+use Rattle.njs_simul.proofs.Kept.{fares_less}
 
 -- a relation that holds where no dictionary is asked, and through what follows
 pub record IsThrough (R : State → State → Type 0) : Type 0 where
@@ -158,20 +157,82 @@ module _ (R : State → State → Type 0) (through : IsThrough R) where
   pub to_function : (made : Made) (x : Context) (s : State) → To s (function made x s)
   to_function made x s = to_named made made.name x s
 
-  -- ---- what may call a function, in good states
+  -- ---- what may call a function, from states that are good
+
+  -- a value is given in a good state
+  abbrev pub Lands : {A : Type 0} → (State → Type 0) → Outcome A → Type 0
+  Lands good (Gives a t) = good t
+  Lands good (Throws v t) = Unit {0}
+  Lands good (Spent t) = Unit {0}
+  Lands good (Asks zone q t) = Unit {0}
 
   module _ (env : Names) where
-    pub to_next : {A B : Type 0} (s : State) (o : Outcome A) (f : A → State → Outcome B) → Fared env s o → To s o → ((a : A) (t : State) → Good env t → To t (f a t)) → To s (and_then o f)
-    to_next s (Gives a t) f g h k = through.join s t (state_of (f a t)) h (k a t g.good)
-    to_next s (Throws v t) f g h k = h
-    to_next s (Spent t) f g h k = h
-    to_next s (Asks zone q t) f g h k = h
+    pub fared_lands : {A : Type 0} (s : State) (o : Outcome A) → Fared env s o → Lands (Good env) o
+    fared_lands s (Gives a t) h = h.good
+    fared_lands s (Throws v t) h = tt
+    fared_lands s (Spent t) h = tt
+    fared_lands s (Asks zone q t) h = tt
 
     pub to_paid_on : {A : Type 0} (n : ℕ) (go : State → Outcome A) (s : State) → Good env s → ((t : State) → Fares env s t → To t (go t)) → To s (charge n go s)
     to_paid_on n go s g k = to_charge n go s (λ t is. k t (subst (Fares env s) (sym is) (fares_less env s (paid_state n s) refl refl (omega arith) g)))
 
-    module _ (call : Call) (fares : CallFares env call) (ends : (f this : PlainValue) (args : List PlainValue) (s : State) → Good env s → To s (call f this args s)) where
-      pub to_tried : (name : List ℕ) (object : ℕ) (s : State) → Good env s → To s (tried call name object s)
+  module _ (good : State → Type 0) where
+    pub to_next : {A B : Type 0} (s : State) (o : Outcome A) (f : A → State → Outcome B) → Lands good o → To s o → ((a : A) (t : State) → good t → To t (f a t)) → To s (and_then o f)
+    to_next s (Gives a t) f g h k = through.join s t (state_of (f a t)) h (k a t g)
+    to_next s (Throws v t) f g h k = h
+    to_next s (Spent t) f g h k = h
+    to_next s (Asks zone q t) f g h k = h
+
+    lands_then : {A B : Type 0} (o : Outcome A) (f : A → State → Outcome B) → Lands good o → ((a : A) (t : State) → good t → Lands good (f a t)) → Lands good (and_then o f)
+    lands_then (Gives a t) f g k = k a t g
+    lands_then (Throws v t) f g k = tt
+    lands_then (Spent t) f g k = tt
+    lands_then (Asks zone q t) f g k = tt
+
+    lands_if : {A : Type 0} (b : Bool) (o p : Outcome A) → Lands good o → Lands good p → Lands good (if b then o else p)
+    lands_if true o p h k = h
+    lands_if false o p h k = k
+
+    lands_primitive_or : (otherwise : State → Outcome Primitive) (v : PlainValue) (s : State) → good s → Lands good (otherwise s) → Lands good (primitive_or otherwise v s)
+    lands_primitive_or otherwise (Simple p) s g h = g
+    lands_primitive_or otherwise (ObjectAt o) s g h = h
+
+    lands_number_or_throw : (n : Option ℤ) (s : State) → good s → Lands good (option_map_or (λ n. Gives n s) n (throw NotNumber s))
+    lands_number_or_throw None s g = tt
+    lands_number_or_throw (Some n) s g = g
+
+    lands_with_members : (v : PlainValue) (s : State) → good s → Lands good (with_members v (Gives v) s)
+    lands_with_members (Simple Undefined) s g = tt
+    lands_with_members (Simple Null) s g = tt
+    lands_with_members (Simple (Truth b)) s g = g
+    lands_with_members (Simple (Number n)) s g = g
+    lands_with_members (Simple (Characters text)) s g = g
+    lands_with_members (ObjectAt o) s g = g
+
+    module _ (call : Call) (lands : (f this : PlainValue) (args : List PlainValue) (s : State) → good s → Lands good (call f this args s))
+        (ends : (f this : PlainValue) (args : List PlainValue) (s : State) → good s → To s (call f this args s)) where
+      lands_tried : (name : List ℕ) (object : ℕ) (s : State) → good s → Lands good (tried call name object s)
+      lands_tried name object s g =
+          let method = get (Simple Undefined) name s.objects object in
+          lands_if (is_callable s.objects method) (call method (ObjectAt object) [] s) (Gives (ObjectAt object) s) (lands method (ObjectAt object) [] s g) g
+
+      lands_by_second : (h : Hint) (o : ℕ) (s : State) → good s → Lands good (by_second call h o s)
+      lands_by_second h o s g =
+          lands_then (tried call (second_method h) o s) (primitive_or (throw NoPrimitive)) (lands_tried (second_method h) o s g) (λ v t g. lands_primitive_or (throw NoPrimitive) v t g tt)
+
+      lands_by_methods : (h : Hint) (o : ℕ) (s : State) → good s → Lands good (by_methods call h o s)
+      lands_by_methods h o s g =
+          lands_then (tried call (first_method h) o s) (primitive_or (by_second call h o)) (lands_tried (first_method h) o s g)
+          (λ v t g. lands_primitive_or (by_second call h o) v t g (lands_by_second h o t g))
+
+      lands_primitive : (h : Hint) (v : PlainValue) (s : State) → good s → Lands good (to_primitive call h v s)
+      lands_primitive h (Simple p) s g = g
+      lands_primitive h (ObjectAt o) s g = lands_by_methods h o s g
+
+      lands_number : (v : PlainValue) (s : State) → good s → Lands good (to_number call v s)
+      lands_number v s g = lands_then (to_primitive call hint.Number v s) number_or_throw (lands_primitive hint.Number v s g) (λ p t g. lands_number_or_throw (number_of p) t g)
+
+      pub to_tried : (name : List ℕ) (object : ℕ) (s : State) → good s → To s (tried call name object s)
       to_tried name object s g =
           let method = get (Simple Undefined) name s.objects object in
           to_if s (is_callable s.objects method) (call method (ObjectAt object) [] s) (Gives (ObjectAt object) s) (ends method (ObjectAt object) [] s g) (stays s)
@@ -180,58 +241,58 @@ module _ (R : State → State → Type 0) (through : IsThrough R) where
       to_primitive_or otherwise (Simple p) s h = stays s
       to_primitive_or otherwise (ObjectAt o) s h = h
 
-      to_by_second : (h : Hint) (o : ℕ) (s : State) → Good env s → To s (by_second call h o s)
+      to_by_second : (h : Hint) (o : ℕ) (s : State) → good s → To s (by_second call h o s)
       to_by_second h o s g =
           to_then s (tried call (second_method h) o s) (primitive_or (throw NoPrimitive)) (to_tried (second_method h) o s g) (λ v t. to_primitive_or (throw NoPrimitive) v t (to_throw NoPrimitive t))
 
-      to_by_methods : (h : Hint) (o : ℕ) (s : State) → Good env s → To s (by_methods call h o s)
+      to_by_methods : (h : Hint) (o : ℕ) (s : State) → good s → To s (by_methods call h o s)
       to_by_methods h o s g =
-          to_next s (tried call (first_method h) o s) (primitive_or (by_second call h o)) (fared_tried env call fares (first_method h) o s g) (to_tried (first_method h) o s g)
+          to_next s (tried call (first_method h) o s) (primitive_or (by_second call h o)) (lands_tried (first_method h) o s g) (to_tried (first_method h) o s g)
           (λ v t g. to_primitive_or (by_second call h o) v t (to_by_second h o t g))
 
-      pub to_primitive_ends : (h : Hint) (v : PlainValue) (s : State) → Good env s → To s (to_primitive call h v s)
+      pub to_primitive_ends : (h : Hint) (v : PlainValue) (s : State) → good s → To s (to_primitive call h v s)
       to_primitive_ends h (Simple p) s g = stays s
       to_primitive_ends h (ObjectAt o) s g = to_by_methods h o s g
 
-      pub to_number_ends : (v : PlainValue) (s : State) → Good env s → To s (to_number call v s)
+      pub to_number_ends : (v : PlainValue) (s : State) → good s → To s (to_number call v s)
       to_number_ends v s g =
           to_then s (to_primitive call hint.Number v s) number_or_throw (to_primitive_ends hint.Number v s g) (λ p t. to_option t (λ n. Gives n t) (number_of p) (throw NotNumber t) (λ n. stays t) (to_throw NotNumber t))
 
-      pub to_text_ends : (v : PlainValue) (s : State) → Good env s → To s (to_text call v s)
+      pub to_text_ends : (v : PlainValue) (s : State) → good s → To s (to_text call v s)
       to_text_ends v s g = to_then s (to_primitive call hint.Text v s) (λ p s. Gives (text_of p) s) (to_primitive_ends hint.Text v s g) (λ p t. stays t)
 
-      to_on_primitives : (h : Hint) (f : Primitive → Primitive → Answer) (a b : PlainValue) (s : State) → Good env s → To s (on_primitives call h f a b s)
+      to_on_primitives : (h : Hint) (f : Primitive → Primitive → Answer) (a b : PlainValue) (s : State) → good s → To s (on_primitives call h f a b s)
       to_on_primitives h f a b s g =
-          to_next s (to_primitive call h a s) (λ p s. and_then (to_primitive call h b s) (λ q s. answered (f p q) s)) (fared_primitive env call fares h a s g) (to_primitive_ends h a s g)
+          to_next s (to_primitive call h a s) (λ p s. and_then (to_primitive call h b s) (λ q s. answered (f p q) s)) (lands_primitive h a s g) (to_primitive_ends h a s g)
           (λ p t g. to_then t (to_primitive call h b t) (λ q s. answered (f p q) s) (to_primitive_ends h b t g) (λ q u. to_answered (f p q) u))
 
-      to_added : (a b : PlainValue) (s : State) → Good env s → To s (added call a b s)
+      to_added : (a b : PlainValue) (s : State) → good s → To s (added call a b s)
       to_added a b s g =
           to_next s (to_primitive call hint.Any a s) (λ p s. and_then (to_primitive call hint.Any b s) (λ q s. paid (binary_of op.Add p q) s))
-          (fared_primitive env call fares hint.Any a s g) (to_primitive_ends hint.Any a s g)
+          (lands_primitive hint.Any a s g) (to_primitive_ends hint.Any a s g)
           (λ p t g. to_then t (to_primitive call hint.Any b t) (λ q s. paid (binary_of op.Add p q) s) (to_primitive_ends hint.Any b t g) (λ q u. to_paid (binary_of op.Add p q) u))
 
-      to_on_numbers : (f : BinaryOp) (a b : PlainValue) (s : State) → Good env s → To s (on_numbers call f a b s)
+      to_on_numbers : (f : BinaryOp) (a b : PlainValue) (s : State) → good s → To s (on_numbers call f a b s)
       to_on_numbers f a b s g =
-          to_next s (to_number call a s) (λ n s. and_then (to_number call b s) (λ m s. answered (binary_of f (Number n) (Number m)) s)) (fared_number env call fares a s g) (to_number_ends a s g)
+          to_next s (to_number call a s) (λ n s. and_then (to_number call b s) (λ m s. answered (binary_of f (Number n) (Number m)) s)) (lands_number a s g) (to_number_ends a s g)
           (λ n t g. to_then t (to_number call b t) (λ m s. answered (binary_of f (Number n) (Number m)) s) (to_number_ends b t g) (λ m u. to_answered (binary_of f (Number n) (Number m)) u))
 
-      to_equal_to_object : (object : PlainValue) (p : Primitive) (s : State) → Good env s → To s (equal_to_object call object p s)
+      to_equal_to_object : (object : PlainValue) (p : Primitive) (s : State) → good s → To s (equal_to_object call object p s)
       to_equal_to_object object p s g =
           to_if s (is_nothing p) (Gives false s) (and_then (to_primitive call hint.Any object s) (λ q s. Gives (is_equal q p) s)) (stays s)
           (to_then s (to_primitive call hint.Any object s) (λ q s. Gives (is_equal q p) s) (to_primitive_ends hint.Any object s g) (λ q t. stays t))
 
-      to_equals : (a b : PlainValue) (s : State) → Good env s → To s (equals call a b s)
+      to_equals : (a b : PlainValue) (s : State) → good s → To s (equals call a b s)
       to_equals (Simple p) (Simple q) s g = stays s
       to_equals (ObjectAt a) (ObjectAt b) s g = stays s
       to_equals (ObjectAt a) (Simple q) s g = to_equal_to_object (ObjectAt a) q s g
       to_equals (Simple p) (ObjectAt b) s g = to_equal_to_object (ObjectAt b) p s g
 
-      to_is_in : (a b : PlainValue) (s : State) → Good env s → To s (is_in call a b s)
+      to_is_in : (a b : PlainValue) (s : State) → good s → To s (is_in call a b s)
       to_is_in a (Simple q) s g = to_throw NotObject s
       to_is_in a (ObjectAt b) s g = to_then s (to_text call a s) _ (to_text_ends a s g) (λ name t. stays t)
 
-      pub to_binary : (o : BinaryOp) (a b : PlainValue) (s : State) → Good env s → To s (binary call o a b s)
+      pub to_binary : (o : BinaryOp) (a b : PlainValue) (s : State) → good s → To s (binary call o a b s)
       to_binary op.Add a b s g = to_added a b s g
       to_binary op.Eq a b s g = to_then s (equals call a b s) truth (to_equals a b s g) (λ e t. stays t)
       to_binary op.Ne a b s g = to_then s (equals call a b s) (λ e. truth (not e)) (to_equals a b s g) (λ e t. stays t)
@@ -254,10 +315,10 @@ module _ (R : State → State → Type 0) (through : IsThrough R) where
       to_binary op.Div a b s g = to_on_numbers op.Div a b s g
       to_binary op.Rem a b s g = to_on_numbers op.Rem a b s g
 
-      to_on_number : (f : UnaryOp) (v : PlainValue) (s : State) → Good env s → To s (on_number call f v s)
+      to_on_number : (f : UnaryOp) (v : PlainValue) (s : State) → good s → To s (on_number call f v s)
       to_on_number f v s g = to_then s (to_number call v s) (λ n s. answered (unary_of f (Number n)) s) (to_number_ends v s g) (λ n t. to_answered (unary_of f (Number n)) t)
 
-      pub to_unary : (o : UnaryOp) (v : PlainValue) (s : State) → Good env s → To s (unary call o v s)
+      pub to_unary : (o : UnaryOp) (v : PlainValue) (s : State) → good s → To s (unary call o v s)
       to_unary sign.Delete v s g = stays s
       to_unary sign.Void v s g = stays s
       to_unary sign.TypeOf v s g = to_type_of v s
@@ -266,9 +327,9 @@ module _ (R : State → State → Type 0) (through : IsThrough R) where
       to_unary sign.BitNot v s g = to_on_number sign.BitNot v s g
       to_unary sign.Not v s g = stays s
 
-    pub to_member_by : (x : Context) (fares : CallFares env x.calls.call) → ((f this : PlainValue) (args : List PlainValue) (s : State) → Good env s → To s (x.calls.call f this args s))
-        → (base key : PlainValue) (s : State) → Good env s → To s (member_by base key x s)
-    to_member_by x fares ends base key s g =
+    pub to_member_by : (x : Context) (lands : (f this : PlainValue) (args : List PlainValue) (s : State) → good s → Lands good (x.calls.call f this args s))
+        (ends : (f this : PlainValue) (args : List PlainValue) (s : State) → good s → To s (x.calls.call f this args s)) (base key : PlainValue) (s : State) → good s → To s (member_by base key x s)
+    to_member_by x lands ends base key s g =
         to_next s (with_members base (Gives base) s) (λ v s. and_then (to_text x.calls.call key s) (λ name s. Gives (Member v name) s))
-        (fared_with_members env base (Gives base) s g (fares_refl env s g)) (to_with_members base (Gives base) s (stays s))
-        (λ v t g. to_then t (to_text x.calls.call key t) (λ name s. Gives (Member v name) s) (to_text_ends x.calls.call fares ends key t g) (λ name u. stays u))
+        (lands_with_members base s g) (to_with_members base (Gives base) s (stays s))
+        (λ v t g. to_then t (to_text x.calls.call key t) (λ name s. Gives (Member v name) s) (to_text_ends x.calls.call lands ends key t g) (λ name u. stays u))

@@ -61,7 +61,7 @@ given_then is (Throws v t) f so = tt
 given_then is (Spent t) f so = tt
 given_then is (Asks zone op t) f so = tt
 
-given_choose : {A : Type 0} (is : A → Type 0) (b : Bool) (f g : State → Outcome A) (s : State) → Given is (f s) → Given is (g s) → Given is (choose b f g s)
+pub given_choose : {A : Type 0} (is : A → Type 0) (b : Bool) (f g : State → Outcome A) (s : State) → Given is (f s) → Given is (g s) → Given is (choose b f g s)
 given_choose is true f g s h k = h
 given_choose is false f g s h k = k
 

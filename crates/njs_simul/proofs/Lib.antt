@@ -51,6 +51,11 @@ pub mod AskingRuns
 pub mod AskingCalls
 pub mod AskingZones
 pub mod Asking
+pub mod AlwaysExpressions
+pub mod AlwaysStatements
+pub mod AlwaysParts
+pub mod AlwaysTrees
+pub mod AlwaysCalls
 pub mod CountedTrees
 pub mod SmallParts
 pub mod SmallTrees

@@ -57,10 +57,46 @@ module _ (R : State → State → Type 0) where
       → AnswersFare (names_in scripts outermost) program → AnswersEnd (names_in scripts outermost) program
       → (n : ℕ) → CallsEnd (names_in scripts outermost) (calls_at program n)
 
+-- the same from every state, whatever scopes its functions stand in
+module _ (R : State → State → Type 0) where
+  pub record CallsAlwaysEnd (calls : Calls) : Type 0 where
+    pub call : (f this : PlainValue) (args : List PlainValue) (s : State) → R s (state_of (calls.call f this args s))
+    pub construct : (f : PlainValue) (args : List PlainValue) (s : State) → R s (state_of (calls.construct f args s))
+
+  -- what built-in functions answer, where the calls that they make do
+  abbrev pub AnswersAlwaysEnd : Program → Type 0
+  AnswersAlwaysEnd program =
+      (calls : Calls) → CallsAlwaysEnd calls
+      → (row : Row) (this : PlainValue) (args : List PlainValue) (by_new : Bool) (s : State) → R s (state_of (program.answers calls row this args by_new s))
+
+  -- the body of a module, where the calls in it do
+  abbrev pub ModulesAlwaysEnd : Type 0
+  ModulesAlwaysEnd = (calls : Calls) → CallsAlwaysEnd calls → (unit : ℕ) (script : Script) (s : State) → R s (state_of (means.run_module calls unit script s))
+
+  -- calls of a program of scripts, however many may be active
+  abbrev pub ProgramAlwaysEnds : Type 0
+  ProgramAlwaysEnds =
+      (scripts : List Script) (program : Program) → program.functions ≡ map means.functions_of scripts → AnswersAlwaysEnd program → (n : ℕ) → CallsAlwaysEnd (calls_at program n)
+
+  abbrev pub AlwaysEnds : Type 0
+  AlwaysEnds = ProgramAlwaysEnds × ModulesAlwaysEnd
+
+-- a predicate of states that stays where the dictionaries, and the calls on them that were answered, do
+abbrev pub SaysOfDictionaries : (State → Type 0) → Type 0
+SaysOfDictionaries P = (s t : State) → t.zones ≡ s.zones → t.asked ≡ s.asked → P s → P t
+
+-- where it holds before, it holds after
+abbrev pub Holding : (State → Type 0) → State → State → Type 0
+Holding P s t = P s → P t
+
+-- calls and modules keep it, where built-in functions do, from every state
+abbrev pub KeepsEverywhere : (State → Type 0) → Type 0
+KeepsEverywhere P = AlwaysEnds (Holding P)
+
 -- once no reply is still to come, nothing is answered any more
 abbrev pub NothingMore : Type 0
-NothingMore = AsksEnd Quiet × RunsEnd Quiet × ProgramEnds Quiet
+NothingMore = AsksEnd Quiet × RunsEnd Quiet × ProgramEnds Quiet × AlwaysEnds Quiet
 
 -- the replies of a run are known from its start
 abbrev pub RepliesStay : Type 0
-RepliesStay = AsksEnd KeepsReplies × RunsEnd KeepsReplies × ProgramEnds KeepsReplies
+RepliesStay = AsksEnd KeepsReplies × RunsEnd KeepsReplies × ProgramEnds KeepsReplies × AlwaysEnds KeepsReplies

@@ -4,7 +4,8 @@
 mod laws;
 
 pub use laws::{
-    accepted_scripts_have_valid_code, code_does_what_scripts_mean, runs_keep_their_replies,
-    sizes_are_small, sound_scripts_have_valid_code, stopped_runs_answer_nothing_more,
+    Saying, accepted_scripts_have_valid_code, calls_keep_what_dictionaries_say,
+    code_does_what_scripts_mean, runs_keep_their_replies, sizes_are_small,
+    sound_scripts_have_valid_code, stopped_runs_answer_nothing_more,
     writing_keeps_what_stands_behind,
 };
