@@ -1,11 +1,11 @@
 mod Answering
 mod Lookups
 pub mod Stopped
-mod Outcomes
+pub mod Outcomes
 mod Messages
-mod Grown
+pub mod Grown
 mod Made
-mod Thrown
+pub mod Thrown
 mod ShownTexts
 mod FirstSteps
 mod FirstEnds
