@@ -5,6 +5,7 @@ pub mod Emission
 pub mod EmissionOfStatements
 pub mod Compiled
 pub mod Fits
+pub mod Found
 pub mod Laws
 pub mod Program
 pub mod Checks

@@ -2,6 +2,7 @@
 ghost use Rattle.njs_meaning.specs.State.{State};
 ghost use Rattle.njs_simul.specs.Asking.{KeepsEverywhere, NothingMore, RepliesStay, SaysOfDictionaries};
 ghost use Rattle.njs_simul.specs.Counts.{SmallCode};
+ghost use Rattle.njs_simul.specs.Found.{NamesAreFound};
 ghost use Rattle.njs_simul.specs.Program.{CodeMeans};
 ghost use Rattle.njs_simul.specs.Sizes.{SizesAreTrue};
 ghost use Rattle.njs_simul.specs.Sound.{SoundCode, AcceptedCode};
@@ -71,4 +72,10 @@ impl Saying for Brand {
 pub fn calls_keep_what_dictionaries_say<S: Saying>()
     requires stays { SaysOfDictionaries S.says }
     ensures { KeepsEverywhere S.says }
+{}
+
+/// A name is found in the scope, and the slot, that its place by the names of the scopes around says, and where the place is
+/// nowhere it isn't found (ECMA-262 5.1 §10.2.2.1).
+pub fn names_are_found()
+    ensures { NamesAreFound }
 {}
