@@ -1,0 +1,40 @@
+use Rattle.std.proofs.Common.{[], ◌∷◌, sym, subst}
+use Rattle.njs_clone.specs.Content.{content}
+use Rattle.njs_code.specs.declared.op.Kind.TheVariants as kind
+use Rattle.njs_simul.specs.Step.{defined, act}
+use Rattle.njs_interp.specs.Acts.{OnHeap, Unanswered, Acts}
+use Rattle.njs_interp.specs.Plain.{plain_stacks}
+use Rattle.njs_interp.specs.Outcomes.{Moves}
+use Rattle.njs_interp.proofs.Finishing.{took-told, took-leaves}
+use Rattle.njs_interp.proofs.Kept.{Grown-Extends}
+use Rattle.njs_interp.proofs.Moving.{define-moves}
+use Rattle.njs_interp.proofs.literals.define.Goals as goal
+
+pub take_two-object-requires-clause-moves : goal.take_two-object-requires-clause-moves
+take_two-object-requires-clause-moves g c = subst (λ k. Moves k 2 1) (sym c.requires.kind) (define-moves c.args.name.now)
+
+pub returns-clause-told : goal.returns-clause-told
+returns-clause-told g c =
+    let h = c.args.machine.now in
+    let m = c.with_property-given.new.machine in
+    let took = c.take_two-object in
+    let st = took.new.stacks in
+    let after = c.push_given.new.stacks in
+    record {
+      by = λ frame code rest s stands.
+          subst (λ b. Acts (OnHeap m s) (Unanswered s) m.texts rest (plain_stacks m.texts after) c.push_given.result (act frame code (kind.Define c.args.name.now) rest (plain_stacks h.texts b) s)) (sym took.ensures.is)
+          (took-told c.args.at.now.function.now c.args.at.now.op.now h m c.args.stacks.now st after (took.result.1 ∷ took.result.0 ∷ []) rest s c.with_property-given.result c.push_given.result
+          (defined c.args.name.now (content h.texts took.result.0) (content h.texts took.result.1) s)
+          took.ensures c.with_property-given.ensures.extends c.push_given.ensures (c.with_property-given.ensures.told.by s stands));
+    }
+
+pub returns-clause-leaves : goal.returns-clause-leaves
+returns-clause-leaves g c =
+    let h = c.args.machine.now in
+    let m = c.with_property-given.new.machine in
+    let took = c.take_two-object in
+    took-leaves c.args.at.now.function.now c.args.at.now.op.now h m c.args.stacks.now took.new.stacks c.push_given.new.stacks (took.result.1 ∷ took.result.0 ∷ []) 2 c.with_property-given.result c.push_given.result
+    (subst (λ k. Moves k 2 1) (sym c.requires.kind) (define-moves c.args.name.now)) took.ensures c.with_property-given.ensures.extends c.with_property-given.ensures.fits c.push_given.ensures
+
+pub returns-clause-grown : goal.returns-clause-grown
+returns-clause-grown g c = Grown-Extends c.args.machine.now c.with_property-given.new.machine c.with_property-given.ensures.extends

@@ -1,0 +1,38 @@
+//! The interpreter: it runs the code of scripts on a machine.
+#![tactic(auto)]
+
+mod answers;
+mod arguments;
+mod asking;
+mod at;
+mod endings;
+mod functions;
+mod host;
+mod in_call;
+mod jumps;
+mod lead;
+mod lists;
+mod literals;
+mod members;
+mod names;
+mod next;
+mod operands;
+mod operators;
+mod own;
+mod pile;
+mod runner;
+mod slots;
+mod stacks;
+mod taken;
+mod taking;
+
+pub use at::At;
+pub use host::{Fuel, Host};
+pub use in_call::InCall;
+pub use lists::More;
+pub use next::Next;
+pub use operators::{binary, unary};
+pub use own::Way;
+pub use pile::Pile;
+pub use runner::Runner;
+pub use stacks::{Ending, Listing, Stacks};
