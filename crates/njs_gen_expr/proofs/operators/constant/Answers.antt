@@ -1,0 +1,14 @@
+use Rattle.std.proofs.Common.{◌≡◌, ℕ, suc, ◌+◌, List, [], ◌∷◌, ◌++◌, refl, ap, arith}
+use Rattle.njs_code.specs.declared.op.Kind.TheVariants as kind
+use Rattle.njs_meaning.specs.Places.{place_in}
+use Rattle.njs_simul.specs.Emission as emit
+use Rattle.njs_simul.specs.Emission.{op, deeper, width}
+use Rattle.njs_gen_expr.specs.Written.{Draft, draft, Holds}
+use Rattle.njs_gen_expr.specs.References.{form_of}
+use Rattle.njs_gen_expr.proofs.Drafts.{recount, bare}
+use Rattle.njs_gen_expr.proofs.operators.constant.Goals as goal
+
+pub returns-clause-written : goal.returns-clause-written
+returns-clause-written c k known at first start n ops front s h =
+    let h1 = c.write.ensures.written k at (draft ops n front first) known s (bare c.args.w.now ops n front first h) in
+    recount c.write-2.new.self _ (suc (suc n)) (2 + n) front first (omega arith) (c.write-2.ensures.written kind.Charge at (draft (op k at ops) (suc n) front first) (λ g. refl) s h1)

@@ -1,0 +1,21 @@
+//! The code of expressions, written from the end of a function to its beginning (ECMA-262 5.1 §11).
+#![tactic(auto)]
+
+mod closure;
+mod count;
+mod expression;
+mod fault;
+mod functions;
+mod here;
+mod operators;
+mod reference;
+mod writer;
+
+pub use closure::pass_function;
+pub use count::{uses_in, uses_in_function};
+pub use expression::{target, value};
+pub use fault::Fault;
+pub use functions::functions_in;
+pub use here::Here;
+pub use reference::{Reference, assign_to, over, reference_of};
+pub use writer::Writer;
