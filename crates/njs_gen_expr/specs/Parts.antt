@@ -2,6 +2,7 @@
 use Rattle.std.specs.Prelude.{ℕ, suc, ◌+◌, List, ◌++◌}
 use Rattle.njs_code.specs.declared.op.Op.{Op}
 use Rattle.njs_meaning.specs.declared.place.Place.{Place}
+use Rattle.njs_meaning.specs.Places.{Around}
 use Rattle.njs_meaning.specs.Parts.{Part}
 use Rattle.njs_simul.specs.Emission as emit
 use Rattle.njs_simul.specs.Emission.{Coded, Emits, value, value_size, begun, deeper}
@@ -40,3 +41,9 @@ WroteDeeper depth count emits code uses here old new =
     (at : emit.Here) (first start n : ℕ) (ops : List Op) (front : List Place) → Stands here at
     → Holds old (draft ops n (front ++ (uses.means start).places at.names) (first + code.size))
     → Holds new (draft (emits (code.means first) (deeper depth at) ops) (count (code.means first) + n) front first)
+
+-- a part of the code is left out: the names in use in it, and its functions
+abbrev pub Passed : {A : Type 0} → Part Placed A → Of_part → Progress → Progress → Type 0
+Passed code uses old new =
+    (names : Around) (first start n : ℕ) (ops : List Op) (front : List Place)
+    → Holds old (draft ops n (front ++ (uses.means start).places names) (first + code.size)) → Holds new (draft ops n front first)

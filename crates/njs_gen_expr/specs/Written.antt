@@ -1,5 +1,5 @@
 -- What is written of the code of one function: a part of it is written in front of what stands behind it.
-use Rattle.std.specs.Prelude.{◌≡◌, ℕ, suc, ◌<◌, List, ◌∷◌, reverse, length, min, Option, Some, None}
+use Rattle.std.specs.Prelude.{◌≡◌, ℕ, suc, ◌<◌, List, ◌∷◌, reverse, length, min, Bool, true, false, Option, Some, None}
 use Rattle.njs_code.specs.declared.op.Address.{Address}
 use Rattle.njs_code.specs.declared.op.Depth.{Depth}
 use Rattle.njs_code.specs.declared.op.Op.{Op}
@@ -18,6 +18,10 @@ pub data Progress : Type 0 where
 abbrev pub progress : Option Fault → List Op → List Place → ℕ → Progress
 progress None ops places functions = Going ops places functions
 progress (Some fault) ops places functions = Failed fault
+
+abbrev pub is_going : Progress → Bool
+is_going (Going ops places functions) = true
+is_going (Failed fault) = false
 
 abbrev pub IsGoing : Progress → Type 0
 IsGoing (Going ops places functions) = Unit {0}

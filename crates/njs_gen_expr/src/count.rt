@@ -131,7 +131,7 @@ pub fn uses_in_function(f: &FunctionTree, total: usize) -> usize
 }
 
 #[cycle(uses)]
-fn in_statements(list: &Items<Stmt>, total: usize) -> usize
+pub fn in_statements(list: &Items<Stmt>, total: usize) -> usize
     ensures { (start : ℕ) (names : Around) → result ≡ most (total + in_statements list.now start names) }
 {
     let list = list.as_slice();
@@ -162,7 +162,7 @@ fn in_branches(list: &Items<Case>, total: usize) -> usize
 }
 
 #[cycle(uses)]
-fn in_statement(s: &Stmt, total: usize) -> usize
+pub fn in_statement(s: &Stmt, total: usize) -> usize
     ensures { (start : ℕ) (names : Around) → result ≡ most (total + in_part (uses.statement s.now) start names) }
 {
     match &s.node {

@@ -12,7 +12,7 @@ use sqlite_items::Items;
 
 // The functions in an expression, added to a total.
 #[cycle(functions)]
-fn in_expression(e: &Expr, total: u32) -> u32
+pub fn in_expression(e: &Expr, total: u32) -> u32
     ensures { result ≡ most_functions (total + (code.expression e.now).size) }
 {
     match &e.node {
@@ -136,7 +136,7 @@ pub fn functions_in(f: &FunctionTree, total: u32) -> u32
 }
 
 #[cycle(functions)]
-fn in_statements(list: &Items<Stmt>, total: u32) -> u32
+pub fn in_statements(list: &Items<Stmt>, total: u32) -> u32
     ensures { result ≡ most_functions (total + in_statements list.now) }
 {
     let list = list.as_slice();
@@ -167,7 +167,7 @@ fn in_branches(list: &Items<Case>, total: u32) -> u32
 }
 
 #[cycle(functions)]
-fn in_statement(s: &Stmt, total: u32) -> u32
+pub fn in_statement(s: &Stmt, total: u32) -> u32
     ensures { result ≡ most_functions (total + (code.statement s.now).size) }
 {
     match &s.node {

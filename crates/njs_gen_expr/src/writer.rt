@@ -3,7 +3,7 @@ ghost use Rattle.std.specs.Prelude.{ℕ, List, ◌≡◌, ◌+◌, ◌∷◌, �
 ghost use Rattle.njs_meaning.specs.declared.place.Place.{Place as SomePlace};
 ghost use Rattle.njs_code.specs.declared.op.Kind.{Kind as SomeKind};
 ghost use Rattle.njs_simul.specs.Emission as emit;
-ghost use Rattle.njs_gen_expr.specs.Written.{Going, IsGoing, Draft, Holds, Refuses, Stands, with_op, most, most_functions};
+ghost use Rattle.njs_gen_expr.specs.Written.{Going, IsGoing, Draft, Holds, Refuses, Stands, with_op, most, most_functions, is_going};
 
 use crate::{Fault, Here};
 use njs_code::{Address, Kind, Op};
@@ -14,6 +14,14 @@ use std::marker::Model;
 
 /// The most operations that a function may have.
 pub const MAX_OPS: usize = 16_777_216;
+
+/// What stands in front of a place in the text of a function: the places of the names in use, and the number of the first
+/// function behind it.
+#[derive(Clone, Copy)]
+pub struct Mark<'a> {
+    pub places: &'a [Place],
+    pub functions: u32,
+}
 
 /// The code of one function, written from its end to its beginning. What was refused once stays so, and nothing more is written.
 #[derive(Drop)]
@@ -50,8 +58,35 @@ impl<'a> Writer<'a> {
         }
     }
 
-    pub(crate) fn alloc(&self) -> Global {
+    /// Where memory is taken.
+    pub fn alloc(&self) -> Global {
         self.alloc
+    }
+
+    /// Whether nothing was refused.
+    pub fn is_going(&self) -> bool
+        ensures { result ≡ is_going self.now }
+    {
+        self.fault.is_none()
+    }
+
+    /// What stands in front of what is written.
+    pub fn mark(&self) -> Mark<'a>
+        ensures { (d : Draft) → IsGoing self.now → Holds self.now d → (result.places.now ≡ d.places) × (result.functions ≡ d.functions) }
+    {
+        Mark {
+            places: self.places,
+            functions: self.functions,
+        }
+    }
+
+    /// Goes on at another place of the text.
+    pub fn go_to(&mut self, mark: Mark<'a>)
+        ensures stays { IsGoing self.new → IsGoing self.old }
+        ensures moved { (d : Draft) (places : List SomePlace) (functions : ℕ) → (IsGoing self.old → (mark.entry.places.now ≡ places) × (mark.entry.functions ≡ functions)) → Holds self.old d → Holds self.new (record d { places = places; functions = functions }) }
+    {
+        self.places = mark.places;
+        self.functions = mark.functions;
     }
 
     /// Writes an operation in front of what is written.

@@ -13,8 +13,9 @@ pub enum Around<'a> {
     Inside(&'a List<(Text, bool)>, &'a Around<'a>),
 }
 
+/// The slot of a name in a scope, and whether it can be assigned. It takes no memory.
 #[tactic(auto, using(crate::proofs::Slots::slots))]
-fn slot_of(name: &Text, names: &[(Text, bool)]) -> Option<(usize, bool)>
+pub fn slot_of(name: &Text, names: &[(Text, bool)]) -> Option<(usize, bool)>
     ensures { result ≡ slot_of name.now names.now }
 {
     for (i, binding) in names.iter().enumerate() {

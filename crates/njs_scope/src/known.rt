@@ -46,6 +46,13 @@ impl Plan {
         self.scopes.as_slice()[scope as usize].as_slice()
     }
 
+    /// The names of each scope.
+    pub fn scopes(&self) -> &[List<(Text, bool)>]
+        ensures { result.now ≡ self.now.scopes }
+    {
+        self.scopes.as_slice()
+    }
+
     /// How many scopes there are.
     pub fn scope_count(&self) -> u32
         ensures count { result ≡ length self.now.scopes }

@@ -11,5 +11,6 @@ mod scope;
 mod script;
 mod walk;
 
+pub use around::slot_of;
 pub use known::Plan;
 pub use script::plan;
