@@ -1,3 +1,11 @@
 pub mod Lists
 pub mod Sizes
 pub mod Trees
+pub mod Steps
+pub mod Loops
+pub mod Branches
+pub mod Jumps
+pub mod Optionals
+pub mod Ends
+pub mod Functions
+pub mod Nodes

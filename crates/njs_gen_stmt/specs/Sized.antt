@@ -2,36 +2,19 @@
 use Rattle.std.specs.Prelude.{ℕ, ◌+◌, List, map, min, Option}
 use Rattle.std.specs.Option.{option_map, option_map_or}
 use Rattle.njs_tree.specs.declared.tree.Expr.{Expr}
-use Rattle.njs_tree.specs.declared.tree.UnaryOp.{UnaryOp}
-use Rattle.njs_tree.specs.declared.tree.UnaryOp.TheVariants as sign
 use Rattle.njs_tree.specs.declared.tree.Stmt.{Stmt}
 use Rattle.njs_tree.specs.declared.tree.Case.{Case}
 use Rattle.njs_tree.specs.declared.tree.ForFirst.{ForFirst}
 use Rattle.njs_tree.specs.declared.tree.ForInHead.{ForInHead}
-use Rattle.njs_tree.specs.declared.tree.ExprNode.TheFolds.{fold-ForFirst, fold-ForInHead, fold-Case}
 use Rattle.njs_meaning.specs.Parts.{each, held, each_named, each_held, each_named_held}
-use Rattle.njs_simul.specs.Emission.{Form, Coded, fetch_size, delete_size, type_size, value_size, values_size, elements_size, fields_size}
+use Rattle.njs_simul.specs.Emission.{Form, Coded, value_size, values_size, elements_size, fields_size}
 use Rattle.njs_simul.specs.EmissionOfStatements.{in_turn_size, declare_size, branches_size, bodies_size, first_of, CodedBranch}
-use Rattle.njs_simul.specs.Compiled.{Of_expression, Of_statement, Of_first, Of_branch, Of_function, node_part, first_part, head_part, statement_part, branch_part, expr_part, function_part, stmt_part, expression, statement}
+use Rattle.njs_gen_expr.specs.Trees.{expression, statement, branch, head}
+use Rattle.njs_gen_expr.specs.Trees as code
 
 -- a number of operations, as far as it is counted
 abbrev pub counted : ℕ → ℕ
 counted n = min n 16777217
-
-unfoldable pub branch : Case → Of_branch
-branch = fold-Case Of_expression Of_first Of_expression Of_statement Of_branch Of_expression Of_function Of_statement node_part first_part head_part statement_part branch_part expr_part function_part stmt_part
-
-unfoldable pub first_part_of : ForFirst → Of_first
-first_part_of = fold-ForFirst Of_expression Of_first Of_expression Of_statement Of_branch Of_expression Of_function Of_statement node_part first_part head_part statement_part branch_part expr_part function_part stmt_part
-
-unfoldable pub head : ForInHead → Of_expression
-head = fold-ForInHead Of_expression Of_first Of_expression Of_statement Of_branch Of_expression Of_function Of_statement node_part first_part head_part statement_part branch_part expr_part function_part stmt_part
-
--- an operator behind its operand, and what asks for the operand's value
-abbrev pub operator_size : UnaryOp → Form → ℕ
-operator_size sign.Delete form = delete_size form
-operator_size sign.TypeOf form = type_size form
-operator_size f form = fetch_size form + 1
 
 -- what an expression is before its value is asked
 abbrev pub form : Expr → (first : ℕ) → Form
@@ -65,7 +48,7 @@ abbrev pub in_branches : List Case → (first : ℕ) → ℕ
 in_branches list first = branches_size ((each (map branch list)).means first) + bodies_size ((each (map branch list)).means first)
 
 abbrev pub in_first : Option ForFirst → (first : ℕ) → ℕ
-in_first part first = (first_of ((held (option_map first_part_of part)).means first)).size
+in_first part first = (first_of ((held (option_map code.first part)).means first)).size
 
 abbrev pub in_head : ForInHead → (first : ℕ) → ℕ
 in_head part first = ((head part).means first).size

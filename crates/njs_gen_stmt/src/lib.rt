@@ -1,6 +1,15 @@
-//! The code of statements, functions and whole scripts (ECMA-262 5.1 §12 to §14).
+//! The code of statements, functions and the bodies of modules (ECMA-262 5.1 §10.4 to §10.6, §12 to §14).
 #![tactic(auto)]
 
+mod address;
+mod function;
+mod here;
+mod labels;
+mod parts;
 pub mod size;
+mod statement;
+mod switch;
 #[cfg(test)]
 mod tests;
+
+pub use function::{Declaration, Known, function_ops, module_ops};

@@ -1,9 +1,10 @@
 //! How many operations stand for a part of a tree, added to a total up to `TOO_MANY`. The recursion is as deep as the tree.
-#![tactic(auto, using(crate::proofs::Trees::trees), unfolding(njs_simul::specs::Compiled::expression, njs_simul::specs::Compiled::statement, crate::specs::Sized::branch, crate::specs::Sized::first_part_of, crate::specs::Sized::head))]
+#![tactic(auto, using(crate::proofs::Trees::trees), unfolding(njs_simul::specs::Compiled::expression, njs_simul::specs::Compiled::statement, njs_gen_expr::specs::Trees::branch, njs_gen_expr::specs::Trees::first, njs_gen_expr::specs::Trees::head))]
 
 ghost use Rattle.std.specs.Prelude.{◌≡◌, ◌≤◌, ℕ, ◌+◌};
 ghost use Rattle.njs_simul.specs.Emission.{fetch_size, method_size};
-ghost use Rattle.njs_gen_stmt.specs.Sized.{counted, form, operator_size, in_target, in_value, in_values, in_elements, in_fields, in_variables, in_statement, in_statements, in_branches, in_first, in_head, in_aside, in_branch};
+ghost use Rattle.njs_gen_expr.specs.References.{operator_count};
+ghost use Rattle.njs_gen_stmt.specs.Sized.{counted, form, in_target, in_value, in_values, in_elements, in_fields, in_variables, in_statement, in_statements, in_branches, in_first, in_head, in_aside, in_branch};
 
 use njs_text::Text;
 use njs_tree::{Case, Expr, ExprNode, ForFirst, ForInHead, Stmt, StmtNode, UnaryOp};
@@ -46,7 +47,7 @@ fn method(e: &Expr) -> u32
 
 // The operator behind its operand.
 fn operator(op: UnaryOp, e: &Expr) -> u32
-    ensures { (first : ℕ) → result ≡ operator_size op (form e.now first) }
+    ensures { (first : ℕ) → result ≡ operator_count op (form e.now first) }
 {
     match op {
         UnaryOp::Delete => match &e.node {
@@ -149,7 +150,7 @@ fn fields(list: &Items<(Text, Expr)>, total: u32) -> u32
 }
 
 // The value of an expression that may be missing, and one operation more.
-fn aside(part: &Option<Expr>, total: u32) -> u32
+pub fn aside(part: &Option<Expr>, total: u32) -> u32
     ensures { (first : ℕ) → result ≡ counted (total + in_aside part.now first) }
 {
     match part {

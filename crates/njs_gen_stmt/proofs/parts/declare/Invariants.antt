@@ -1,0 +1,7 @@
+use Rattle.std.proofs.Common.{ℕ, drop}
+use Rattle.njs_gen_expr.specs.Written.{IsGoing}
+use Rattle.njs_gen_stmt.proofs.Lists.{WroteDeclared}
+use Rattle.njs_gen_stmt.proofs.parts.declare.Given as goal
+
+abbrev pub invariant-loop-i : goal.invariant-loop-i
+invariant-loop-i l = (IsGoing l.w → IsGoing l.initial.w) × WroteDeclared (drop l.i l.list) l.here l.initial.w l.w
