@@ -1,0 +1,3 @@
+mod Growth
+pub mod Keeping
+mod Telling

@@ -1,0 +1,5 @@
+pub mod EntryObjects
+pub mod Response
+pub mod Return
+pub mod Rows
+pub mod Tells
