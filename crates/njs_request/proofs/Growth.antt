@@ -10,7 +10,8 @@ use Rattle.njs_clone.specs.Content.{content}
 use Rattle.njs_meaning.specs.Primitives.{Characters}
 use Rattle.njs_meaning.specs.Values.{Simple}
 use Rattle.njs_convert.specs.declared.stop.Stop.{Stop}
-use Rattle.njs_convert.specs.Tells.{Grows, Counts}
+use Rattle.njs_convert.specs.declared.stop.Stop.TheVariants.{Throw, Fuel, NoMemory}
+use Rattle.njs_convert.specs.Tells.{Grows, Counts, CountsError}
 
 module _ (h k : Heap) (grows : Grows h k) where
   pub fits_grown : (v : Value) → FitsValue (sizes h) v → FitsValue (sizes k) v
@@ -33,4 +34,10 @@ module _ (h k : Heap) (grows : Grows h k) where
 -- what was counted before, and then
 pub counts_on : {V : Type 0} (adds adds' : ℕ → Type 0) (new : ℕ) (r : Result V Stop) → ((n : ℕ) → adds n → adds' n) → Counts adds new r → Counts adds' new r
 counts_on adds adds' new (Ok v) on counts = on new counts
-counts_on adds adds' new (Err stop) on counts = (counts.0, on counts.0 counts.1, counts.2)
+counts_on adds adds' new (Err stop) on counts = (counts.0, on counts.0 counts.1, counts.2, counts.3)
+
+-- an error that is thrown where nothing else was counted
+pub thrown_counts : (V : Type 0) (adds : ℕ → Type 0) (old new : ℕ) (stop : Stop) → adds old → CountsError old new stop → Counts {V = V} adds new (Err stop)
+thrown_counts V adds old new (Throw v) none counts = (old, none, omega (arith, counts), omega (arith, counts))
+thrown_counts V adds old new Fuel none counts = absurd counts
+thrown_counts V adds old new NoMemory none counts = (old, none, omega (arith, counts), omega (arith, counts))

@@ -1,3 +1,4 @@
+pub mod Answering
 pub mod EntryObjects
 pub mod Response
 pub mod Return

@@ -77,19 +77,34 @@ fn optional_text<C: Caller<L>, L: Ledger>(
     }
 }
 
-// Whether nothing is answered yet.
+// Whether nothing is answered yet in the record of a host.
+fn is_open_at<H: HasRecord>(host: &mut H) -> bool
+    ensures is { result ≡ is_open (H.response_of host.old) }
+    ensures same { host.new ≡ host.old }
+{
+    host.kept().is_open()
+}
+
+// The same, where a caller lends the host.
 fn is_open<H: HasRecord, C: HostCaller<H, L>, L: Ledger>(caller: &mut C) -> bool
     ensures is { result ≡ is_open (H.response_of (C.host_of caller.old)) }
     ensures same { caller.new ≡ caller.old }
 {
-    caller.host().kept().is_open()
+    is_open_at(caller.host())
 }
 
-// Writes a whole answer into the record, whatever was answered before.
+// Writes a whole answer into the record of a host, whatever was answered before.
+fn write_at<H: HasRecord>(host: &mut H, head: Head, body: Text)
+    ensures { host.new ≡ H.with_response host.old (whole head body) }
+{
+    host.kept().answer(head, body);
+}
+
+// The same, where a caller lends the host.
 fn write<H: HasRecord, C: HostCaller<H, L>, L: Ledger>(caller: &mut C, head: Head, body: Text)
     ensures { caller.new ≡ C.with_host caller.old (H.with_response (C.host_of caller.old) (whole head body)) }
 {
-    caller.host().kept().answer(head, body)
+    write_at(caller.host(), head, body);
 }
 
 // The same, as the caller's part of a run.
@@ -104,7 +119,7 @@ fn answer<H: HasRecord, C: HostCaller<H, L>, L: Ledger>(caller: &mut C, head: He
     ensures ticks { C.ticks_of caller.new ≡ C.ticks_of caller.old }
     ensures steps { (n : ℕ) → C.adds caller.old n caller.new n }
 {
-    write(caller, head, body)
+    write(caller, head, body);
 }
 
 // Answers with this head and the text of an argument.

@@ -2,13 +2,17 @@
 #![tactic(auto)]
 
 mod answer;
+#[cfg(test)]
+mod callers;
 mod host;
-mod make;
+mod objects;
 mod record;
 mod rows;
 mod status;
+#[cfg(test)]
+mod tests;
 
 pub use host::HasRecord;
-pub use make::{make, prototype};
+pub use objects::{make, prototype};
 pub use record::Record;
 pub use rows::{RETURN, call};

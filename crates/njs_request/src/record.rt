@@ -74,7 +74,7 @@ impl Record {
 
     /// What the response is made from, exactly where there is a head and the end was said.
     pub fn into_reply(self) -> Option<Reply>
-        ensures reply { result ≡ reply_of self.entry }
+        ensures reply { result ≡ reply_of self }
         ensures valid { ForSome result IsReply }
     {
         let Record {

@@ -118,6 +118,7 @@ pub fn prototype<L: Ledger>(
     requires first { first_count ≤ length machine.old.objects }
     ensures made { OnOk result (plain_objects machine.new ≡ with_prototype (plain_objects machine.old)) }
     ensures number { IfOk result (λ object. object.0 ≡ length machine.old.objects + 1) }
+    ensures within { IfOk result (λ object. object.0 < length machine.new.objects) }
 
     // What they are beside their properties: the built-in function of the row, and an ordinary object.
     ensures inner { OnOk result (map (λ o. o.inner) machine.new.objects ≡ map (λ o. o.inner) machine.old.objects ++ Inner.BuiltIn return_row ∷ Inner.Plain ∷ []) }
@@ -141,6 +142,7 @@ pub fn make<L: Ledger>(
     requires { prototype.0 < length machine.old.objects }
     ensures made { OnOk result (plain_objects machine.new ≡ with_request prototype (plain_objects machine.old)) }
     ensures number { IfOk result (λ object. object.0 ≡ length machine.old.objects) }
+    ensures within { IfOk result (λ object. object.0 < length machine.new.objects) }
 
     // It is ordinary beside its properties.
     ensures inner { OnOk result (map (λ o. o.inner) machine.new.objects ≡ map (λ o. o.inner) machine.old.objects ++ Inner.Plain ∷ []) }
