@@ -3,7 +3,7 @@ use Rattle.std.proofs.Common.{◌≡◌, ℕ, List, [], ◌∷◌, None, Some, t
 use Rattle.njs_value.specs.declared.Cause.TheVariants.{WrongReceiver, ResponseState, BadArgument, NotNumber}
 use Rattle.njs_meaning.specs.declared.prototypes.Prototype.TheVariants as prototype
 use Rattle.njs_value.specs.declared.Class.TheVariants as class
-use Rattle.njs_meaning.specs.Primitives.{Undefined, Number, Characters}
+use Rattle.njs_meaning.specs.Primitives.{Undefined, Truth, Number, Characters}
 use Rattle.njs_meaning.specs.Values.{PlainValue, Simple, ObjectAt}
 use Rattle.njs_meaning.specs.PlainHeap.{PlainObject, Plain}
 use Rattle.njs_meaning.specs.State.{Response, State, Outcome, Gives, Spent, Call}
@@ -54,8 +54,8 @@ no_text = refl
 undefined_text : returns (number 200 ∷ Simple Undefined ∷ []) ≡ answer 200 []
 undefined_text = refl
 
--- a status by its text, and a text that is a number
-converted : returns (text (codes " 404 ") ∷ number 7 ∷ []) ≡ answer 404 (codes "7")
+-- a status by its text, and the text of a truth value
+converted : returns (text (codes " 404 ") ∷ Simple (Truth true) ∷ []) ≡ answer 404 (codes "true")
 converted = refl
 
 -- no status

@@ -15,4 +15,4 @@ mod tests;
 pub use host::HasRecord;
 pub use objects::{make, prototype};
 pub use record::Record;
-pub use rows::{RETURN, call};
+pub use rows::{RETURN, call, can_construct};

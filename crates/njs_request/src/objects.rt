@@ -81,7 +81,13 @@ fn return_function<L: Ledger>(
         Err(_) => return Err(NoMemory),
     };
     let up = ObjId(Prototype::Function.place());
-    machine.new_object_with(Class::Function, Some(up), props, Inner::BuiltIn(RETURN), steps)
+    machine.new_object_with(
+        Class::Function,
+        Some(up),
+        props,
+        Inner::BuiltIn(RETURN),
+        steps,
+    )
 }
 
 // The object that the methods stand on.

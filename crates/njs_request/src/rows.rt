@@ -9,7 +9,7 @@ ghost use Rattle.njs_meaning.specs.Replies.{Known};
 ghost use Rattle.njs_meaning.specs.Errors.{first_count};
 ghost use Rattle.njs_convert.specs.Tells.{Means, Counts, ShowsValue, Grows, FitsAnswer};
 ghost use Rattle.njs_request.specs.Response.{KeepsResponse};
-ghost use Rattle.njs_request.specs.Rows.{IsRow, answers};
+ghost use Rattle.njs_request.specs.Rows.{IsRow, answers, constructs};
 
 use crate::HasRecord;
 use crate::answer::{answer_on, argument};
@@ -22,6 +22,14 @@ use std::sync::ledger::Ledger;
 
 /// The row of the method `return`.
 pub const RETURN: Row = Row(256);
+
+/// Whether a row of a request's methods may be called by `new` (ECMA-262 5.1 §15).
+pub fn can_construct(row: Row) -> bool
+    requires { IsRow row }
+    ensures { result ≡ constructs row }
+{
+    false
+}
 
 /// Answers a row of a request's methods: `RETURN` (njs reference, `r.return`). A call costs one tick. Whether it came by `new`
 /// makes no difference; none of the rows may be called so.

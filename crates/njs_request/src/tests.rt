@@ -1,5 +1,5 @@
 // `return` answers a request once, by a status and a text (njs reference, `r.return`).
-ghost use Rattle.std.specs.Prelude.{◌≡◌, ◌<◌, true, length};
+ghost use Rattle.std.specs.Prelude.{◌≡◌, ◌<◌, [], true, length};
 ghost use Rattle.njs_shared.specs.Heap.{sizes};
 ghost use Rattle.njs_shared.specs.Fits.{FitsValue};
 
@@ -72,12 +72,7 @@ const CASES: &[Case] = &[
     (1, Request, Status(Num(200)), Answers(200, "")),
     (1, Request, Both(Num(200), Undefined), Answers(200, "")),
     (1, Request, Both(Num(200), Null), Answers(200, "null")),
-    (
-        1,
-        Request,
-        Both(Str(" 404 "), Num(-7)),
-        Answers(404, "-7"),
-    ),
+    (1, Request, Both(Str(" 404 "), Num(-7)), Answers(404, "-7")),
     (2, Request, Both(Num(201), Object), Answers(201, "7")),
     (1, Request, Both(Num(201), Object), Spent),
     (1, Request, Both(Num(99), Str("x")), RANGE),
@@ -198,7 +193,7 @@ fn add<L: Ledger>(
     })
 }
 
-fn receiver(entry: &Entry, receiver: Receiver) -> Value {
+fn receiver_of(entry: &Entry, receiver: Receiver) -> Value {
     match receiver {
         Receiver::Request => Value::Obj(entry.request),
         Receiver::Prototype => Value::Obj(entry.up),
@@ -231,11 +226,29 @@ fn call_with<L: Ledger>(
         (Some(status), Some(text)) => {
             let status = checked(rt, machine, status);
             let text = checked(rt, machine, text);
-            call(alloc, RETURN, caller, machine, this, &[status, text], false, steps)
+            call(
+                alloc,
+                RETURN,
+                caller,
+                machine,
+                this,
+                &[status, text],
+                false,
+                steps,
+            )
         }
         (Some(status), None) => {
             let status = checked(rt, machine, status);
-            call(alloc, RETURN, caller, machine, this, &[status], false, steps)
+            call(
+                alloc,
+                RETURN,
+                caller,
+                machine,
+                this,
+                &[status],
+                false,
+                steps,
+            )
         }
         (None, _) => call(alloc, RETURN, caller, machine, this, &[], false, steps),
     }
@@ -328,7 +341,7 @@ fn return_case<L: Ledger>(
     let mut machine = Machine::clone_of(alloc, &shared);
     let entry = enter(alloc, &mut machine, steps)?;
     let mut caller = answering(left);
-    let this = receiver(&entry, of);
+    let this = receiver_of(&entry, of);
     let answer = returned(
         rt,
         alloc,
@@ -377,13 +390,32 @@ fn second_call<L: Ledger>(rt: &impl Abort, alloc: Global, blank: Blank) -> Resul
     let shared = Shared::empty(alloc);
     let mut machine = Machine::clone_of(alloc, &shared);
     let entry = enter(alloc, &mut machine, &mut steps)?;
-    let this = receiver(&entry, Request);
+    let this = receiver_of(&entry, Request);
     let mut caller = answering(3);
     let first = Both(Num(200), Str("a"));
     let second = Both(Num(500), Object);
-    assert!(rt; returned(rt, alloc, &mut caller, &mut machine, &entry, this, first, &mut steps)? == Ok(Value::Undefined));
-    let Err(Stop::Throw(error)) =
-        returned(rt, alloc, &mut caller, &mut machine, &entry, this, second, &mut steps)?
+    assert!(rt;
+        returned(
+            rt,
+            alloc,
+            &mut caller,
+            &mut machine,
+            &entry,
+            this,
+            first,
+            &mut steps
+        )? == Ok(Value::Undefined)
+    );
+    let Err(Stop::Throw(error)) = returned(
+        rt,
+        alloc,
+        &mut caller,
+        &mut machine,
+        &entry,
+        this,
+        second,
+        &mut steps,
+    )?
     else {
         return Err("no throw")?;
     };
