@@ -1,3 +1,4 @@
+mod Answering
 mod Entry
 mod Examples
 pub mod Faring

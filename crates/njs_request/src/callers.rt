@@ -1,8 +1,11 @@
 // A small host and a caller that lends it, by which the rows are tried.
-ghost use Rattle.std.specs.Prelude.{◌≡◌, ◌≤◌, ◌==◌, [], List, refl, None};
+ghost use Rattle.std.specs.Prelude.{◌≡◌, ◌≤◌, ◌==◌, [], ℕ, List, refl, None};
 ghost use Rattle.std.proofs.Common.{◌∙◌, le_refl, le_trans};
+ghost use Rattle.njs_shared.specs.Heap.{Sizes};
+ghost use Rattle.njs_shared.specs.Fits.{FitsValue};
+ghost use Rattle.njs_clone.specs.Content.{content};
 ghost use Rattle.njs_clone.specs.StandsFor.{plain_objects};
-ghost use Rattle.njs_meaning.specs.Primitives.{Undefined};
+ghost use Rattle.njs_meaning.specs.Primitives.{Undefined, Number};
 ghost use Rattle.njs_meaning.specs.Values.{PlainValue, Simple};
 ghost use Rattle.njs_meaning.specs.State.{State};
 ghost use Rattle.njs_request.specs.Answering.{answering};
@@ -35,6 +38,14 @@ impl HasRecord for Keeper {
     ghost response_with = { λ h r. refl };
 
     ghost with_own = { λ h. refl };
+}
+
+// A number as a value.
+fn number_value(number: i32) -> Value
+    ensures shows { (texts : List (List ℕ)) → content texts result ≡ Simple (Number number) }
+    ensures fits { (n : Sizes) → FitsValue n result }
+{
+    Value::Num(i64::from(number))
 }
 
 /// Each call takes a tick, answers the request itself and gives a number.
@@ -99,7 +110,7 @@ impl<L: Ledger> Caller<L> for Answering {
         self.left -= 1;
         let head = Head::plain(alloc, 500);
         self.host.kept.answer(head, Text::fixed("within"));
-        Ok(Value::Num(i64::from(self.number)))
+        Ok(number_value(self.number))
     }
 
     fn construct(

@@ -4,11 +4,7 @@ ghost use Rattle.njs_shared.specs.Heap.{sizes};
 ghost use Rattle.njs_shared.specs.Fits.{FitsValue};
 
 use crate::callers::{Answering, Keeper};
-use crate::tests::Args::{Both, Nothing, Status};
-use crate::tests::Given::{Null, Num, Object, Str, Undefined};
-use crate::tests::Receiver::{Prototype, Request};
-use crate::tests::Wanted::{Answers, Spent, Throws};
-use crate::{RETURN, Record, call, make, prototype};
+use crate::{RETURN, Record, call, can_construct, make, prototype};
 use http_out::Reply;
 use njs_clone::Machine;
 use njs_convert::{Stop, first_heap};
@@ -21,7 +17,7 @@ use std::process::Abort;
 use std::sync::ledger::{Blank, Ledger};
 use std::test::Fail;
 
-// What an argument is; an object has methods that give 7.
+// What an argument is; the text of the object is what a call gives.
 #[derive(Clone, Copy)]
 enum Given {
     Undefined,
@@ -30,80 +26,6 @@ enum Given {
     Str(&'static str),
     Object,
 }
-
-#[derive(Clone, Copy)]
-enum Args {
-    Nothing,
-    Status(Given),
-    Both(Given, Given),
-}
-
-// Whose method is called.
-#[derive(Clone, Copy)]
-enum Receiver {
-    Request,
-    Prototype,
-    Number,
-}
-
-// What comes of a call: a status and a body, an error with a message, or the want of a tick.
-#[derive(Clone, Copy)]
-enum Wanted {
-    Answers(u16, &'static str),
-    Throws(&'static str),
-    Spent,
-}
-
-// The ticks before a call.
-type Case = (u64, Receiver, Args, Wanted);
-
-const RANGE: Wanted = Throws("argument range");
-
-const CASES: &[Case] = &[
-    (
-        1,
-        Request,
-        Both(Num(200), Str("Hello world!")),
-        Answers(200, "Hello world!"),
-    ),
-    (0, Request, Both(Num(200), Str("x")), Spent),
-    (1, Request, Nothing, Throws("not a number")),
-    (1, Request, Status(Str("ok")), Throws("not a number")),
-    (1, Request, Status(Num(200)), Answers(200, "")),
-    (1, Request, Both(Num(200), Undefined), Answers(200, "")),
-    (1, Request, Both(Num(200), Null), Answers(200, "null")),
-    (1, Request, Both(Str(" 404 "), Num(-7)), Answers(404, "-7")),
-    (2, Request, Both(Num(201), Object), Answers(201, "7")),
-    (1, Request, Both(Num(201), Object), Spent),
-    (1, Request, Both(Num(99), Str("x")), RANGE),
-    (1, Request, Status(Num(199)), RANGE),
-    (1, Request, Status(Num(599)), Answers(599, "")),
-    (1, Request, Status(Num(600)), RANGE),
-    (1, Request, Both(Num(1000), Str("x")), RANGE),
-    (1, Request, Status(Num(-200)), RANGE),
-    (1, Request, Status(Num(65736)), RANGE),
-    (1, Request, Status(Num(204)), RANGE),
-    (1, Request, Status(Num(300)), Answers(300, "")),
-    (1, Request, Both(Num(301), Str("/next")), RANGE),
-    (1, Request, Both(Num(302), Str("/next")), RANGE),
-    (1, Request, Both(Num(303), Str("/next")), RANGE),
-    (1, Request, Status(Num(304)), RANGE),
-    (1, Request, Status(Num(305)), Answers(305, "")),
-    (1, Request, Both(Num(307), Str("/next")), RANGE),
-    (1, Request, Both(Num(308), Str("/next")), RANGE),
-    (
-        1,
-        Prototype,
-        Both(Num(200), Str("x")),
-        Throws("wrong receiver"),
-    ),
-    (
-        1,
-        Receiver::Number,
-        Both(Num(99), Str("x")),
-        Throws("wrong receiver"),
-    ),
-];
 
 fn fixed(rt: &impl Abort, text: &'static str) -> Text {
     assert!(rt; text.len() <= 1_048_576);
@@ -193,14 +115,6 @@ fn add<L: Ledger>(
     })
 }
 
-fn receiver_of(entry: &Entry, receiver: Receiver) -> Value {
-    match receiver {
-        Receiver::Request => Value::Obj(entry.request),
-        Receiver::Prototype => Value::Obj(entry.up),
-        Receiver::Number => Value::Num(1),
-    }
-}
-
 // The value, which is one of the machine's.
 fn checked(rt: &impl Abort, machine: &Machine<'_>, value: Value) -> Value
     ensures same { result ≡ value }
@@ -210,70 +124,31 @@ fn checked(rt: &impl Abort, machine: &Machine<'_>, value: Value) -> Value
     value
 }
 
-// Calls `return` with these values.
-fn call_with<L: Ledger>(
-    rt: &impl Abort,
-    alloc: Global,
-    caller: &mut Answering,
-    machine: &mut Machine<'_>,
-    this: Value,
-    values: (Option<Value>, Option<Value>),
-    steps: &mut Steps<L>,
-) -> Result<Value, Stop> {
-    assert!(rt; machine.sizes().0 >= 13);
-    let this = checked(rt, machine, this);
-    match values {
-        (Some(status), Some(text)) => {
-            let status = checked(rt, machine, status);
-            let text = checked(rt, machine, text);
-            call(
-                alloc,
-                RETURN,
-                caller,
-                machine,
-                this,
-                &[status, text],
-                false,
-                steps,
-            )
-        }
-        (Some(status), None) => {
-            let status = checked(rt, machine, status);
-            call(
-                alloc,
-                RETURN,
-                caller,
-                machine,
-                this,
-                &[status],
-                false,
-                steps,
-            )
-        }
-        (None, _) => call(alloc, RETURN, caller, machine, this, &[], false, steps),
-    }
-}
-
-// Makes the arguments and calls `return` with them.
+// Calls `return` with two values.
 fn returned<L: Ledger>(
     rt: &impl Abort,
     alloc: Global,
     caller: &mut Answering,
     machine: &mut Machine<'_>,
-    entry: &Entry,
     this: Value,
-    args: Args,
+    status: Value,
+    text: Value,
     steps: &mut Steps<L>,
-) -> Result<Result<Value, Stop>, Fail> {
-    let values = match args {
-        Args::Nothing => (None, None),
-        Args::Status(status) => (Some(add(rt, alloc, machine, entry, status, steps)?), None),
-        Args::Both(status, text) => (
-            Some(add(rt, alloc, machine, entry, status, steps)?),
-            Some(add(rt, alloc, machine, entry, text, steps)?),
-        ),
-    };
-    Ok(call_with(rt, alloc, caller, machine, this, values, steps))
+) -> Result<Value, Stop> {
+    assert!(rt; machine.sizes().0 >= 13);
+    let this = checked(rt, machine, this);
+    let status = checked(rt, machine, status);
+    let text = checked(rt, machine, text);
+    call(
+        alloc,
+        RETURN,
+        caller,
+        machine,
+        this,
+        &[status, text],
+        false,
+        steps,
+    )
 }
 
 // Whether a value is an object with this message.
@@ -299,27 +174,6 @@ fn is_reply(reply: &Reply, status: u16, body: &str) -> bool {
         && reply.body.as_str() == body
 }
 
-// Whether the call gave this answer, and the record has it.
-fn is_wanted(
-    rt: &impl Abort,
-    machine: &Machine<'_>,
-    answer: Result<Value, Stop>,
-    reply: &Option<Reply>,
-    wanted: Wanted,
-) -> bool {
-    match wanted {
-        Wanted::Answers(status, body) => match reply {
-            Some(reply) => answer == Ok(Value::Undefined) && is_reply(reply, status, body),
-            None => false,
-        },
-        Wanted::Throws(message) => match answer {
-            Err(Stop::Throw(value)) => has_message(rt, machine, value, message) && reply.is_none(),
-            _ => false,
-        },
-        Wanted::Spent => answer == Err(Stop::Fuel) && reply.is_none(),
-    }
-}
-
 fn answering(left: u64) -> Answering {
     Answering {
         left,
@@ -330,35 +184,87 @@ fn answering(left: u64) -> Answering {
     }
 }
 
-fn return_case<L: Ledger>(
+// Whether a call answered with this status and body.
+fn answers(answer: Result<Value, Stop>, caller: Answering, status: u16, body: &str) -> bool {
+    match &caller.into_reply() {
+        Some(reply) => answer == Ok(Value::Undefined) && is_reply(reply, status, body),
+        None => false,
+    }
+}
+
+// Whether a call threw an error with this message, and nothing is answered.
+fn throws(
+    rt: &impl Abort,
+    machine: &Machine<'_>,
+    answer: Result<Value, Stop>,
+    caller: Answering,
+    message: &'static str,
+) -> bool {
+    match answer {
+        Err(Stop::Throw(value)) => {
+            has_message(rt, machine, value, message) && caller.into_reply().is_none()
+        }
+        _ => false,
+    }
+}
+
+// A number, and whether it is a status that is answered.
+type Case = (i64, bool);
+
+const STATUSES: &[Case] = &[
+    (-200, false),
+    (99, false),
+    (199, false),
+    (200, true),
+    (201, true),
+    (204, false),
+    (300, true),
+    (301, false),
+    (302, false),
+    (303, false),
+    (304, false),
+    (305, true),
+    (307, false),
+    (308, false),
+    (404, true),
+    (599, true),
+    (600, false),
+    (1000, false),
+    (65736, false),
+];
+
+fn status_case<L: Ledger>(
     rt: &impl Abort,
     alloc: Global,
     case: Case,
     steps: &mut Steps<L>,
 ) -> Result<(), Fail> {
-    let (left, of, args, wanted) = case;
+    let (number, is_answered) = case;
     let shared = Shared::empty(alloc);
     let mut machine = Machine::clone_of(alloc, &shared);
     let entry = enter(alloc, &mut machine, steps)?;
-    let mut caller = answering(left);
-    let this = receiver_of(&entry, of);
+    let this = Value::Obj(entry.request);
+    let status = Value::Num(number);
+    let mut caller = answering(1);
     let answer = returned(
         rt,
         alloc,
         &mut caller,
         &mut machine,
-        &entry,
         this,
-        args,
+        status,
+        Value::Null,
         steps,
-    )?;
-    assert!(rt; caller.left == 0);
-    let reply = caller.into_reply();
-    assert!(rt; is_wanted(rt, &machine, answer, &reply, wanted));
+    );
+    if is_answered {
+        assert!(rt; answers(answer, caller, number as u16, "null"));
+    } else {
+        assert!(rt; throws(rt, &machine, answer, caller, "argument range"));
+    }
     Ok(())
 }
 
-fn all_cases<L: Ledger>(
+fn statuses<L: Ledger>(
     rt: &impl Abort,
     alloc: Global,
     cases: &[Case],
@@ -370,17 +276,180 @@ fn all_cases<L: Ledger>(
 {
     let mut steps = Steps::<L>::new(blank);
     for case in cases {
-        return_case(rt, alloc, *case, &mut steps)?;
+        status_case(rt, alloc, *case, &mut steps)?;
     }
     Ok(())
 }
 
 #[test]
-fn a_status_and_a_text_are_the_answer(rt: HostRuntime) -> Result<(), Fail> {
-    all_cases::<Brand>(&rt, rt.alloc(), CASES, Blank::new(1))
+fn final_statuses_are_answered(rt: HostRuntime) -> Result<(), Fail> {
+    statuses::<Brand>(&rt, rt.alloc(), STATUSES, Blank::new(1))
 }
 
-// A second call throws, and leaves the answer of the first.
+// A text as it is given, and the body that it is.
+type Body = (Given, &'static str);
+
+const BODIES: &[Body] = &[
+    (Given::Undefined, ""),
+    (Given::Null, "null"),
+    (Given::Num(-7), "-7"),
+    (Given::Str("Hello world!"), "Hello world!"),
+    (Given::Object, "7"),
+];
+
+// The call of a method takes the second tick, and what it answers is replaced.
+fn body_case<L: Ledger>(
+    rt: &impl Abort,
+    alloc: Global,
+    case: Body,
+    steps: &mut Steps<L>,
+) -> Result<(), Fail> {
+    let (given, body) = case;
+    let shared = Shared::empty(alloc);
+    let mut machine = Machine::clone_of(alloc, &shared);
+    let entry = enter(alloc, &mut machine, steps)?;
+    let this = Value::Obj(entry.request);
+    let text = add(rt, alloc, &mut machine, &entry, given, steps)?;
+    let mut caller = answering(2);
+    let status = Value::Num(200);
+    let answer = returned(
+        rt,
+        alloc,
+        &mut caller,
+        &mut machine,
+        this,
+        status,
+        text,
+        steps,
+    );
+    assert!(rt; answers(answer, caller, 200, body));
+    Ok(())
+}
+
+fn bodies<L: Ledger>(
+    rt: &impl Abort,
+    alloc: Global,
+    cases: &[Body],
+    blank: Blank,
+) -> Result<(), Fail>
+    requires name { blank.name ≡ L.name }
+    requires parts { blank.parts ≡ L.parts }
+    requires some { 0 < L.parts }
+{
+    let mut steps = Steps::<L>::new(blank);
+    for case in cases {
+        body_case(rt, alloc, *case, &mut steps)?;
+    }
+    Ok(())
+}
+
+#[test]
+fn a_text_is_the_body(rt: HostRuntime) -> Result<(), Fail> {
+    bodies::<Brand>(&rt, rt.alloc(), BODIES, Blank::new(1))
+}
+
+// Another receiver, no number and no tick.
+fn refusals<L: Ledger>(rt: &impl Abort, alloc: Global, blank: Blank) -> Result<(), Fail>
+    requires name { blank.name ≡ L.name }
+    requires parts { blank.parts ≡ L.parts }
+    requires some { 0 < L.parts }
+{
+    let mut steps = Steps::<L>::new(blank);
+    let shared = Shared::empty(alloc);
+    let mut machine = Machine::clone_of(alloc, &shared);
+    let entry = enter(alloc, &mut machine, &mut steps)?;
+    let (this, up) = (Value::Obj(entry.request), Value::Obj(entry.up));
+    let (low, none) = (Value::Num(99), Value::Undefined);
+    let mut first = answering(1);
+    let answer = returned(
+        rt,
+        alloc,
+        &mut first,
+        &mut machine,
+        up,
+        low,
+        none,
+        &mut steps,
+    );
+    assert!(rt; throws(rt, &machine, answer, first, "wrong receiver"));
+    let mut second = answering(1);
+    let answer = returned(
+        rt,
+        alloc,
+        &mut second,
+        &mut machine,
+        low,
+        low,
+        none,
+        &mut steps,
+    );
+    assert!(rt; throws(rt, &machine, answer, second, "wrong receiver"));
+    let mut third = answering(1);
+    let answer = returned(
+        rt,
+        alloc,
+        &mut third,
+        &mut machine,
+        this,
+        none,
+        none,
+        &mut steps,
+    );
+    assert!(rt; throws(rt, &machine, answer, third, "not a number"));
+    let mut spent = answering(0);
+    let answer = returned(
+        rt,
+        alloc,
+        &mut spent,
+        &mut machine,
+        this,
+        low,
+        none,
+        &mut steps,
+    );
+    assert!(rt; answer == Err(Stop::Fuel));
+    assert!(rt; !can_construct(RETURN));
+    Ok(())
+}
+
+#[test]
+fn what_is_no_answer_is_refused(rt: HostRuntime) -> Result<(), Fail> {
+    refusals::<Brand>(&rt, rt.alloc(), Blank::new(1))
+}
+
+// A call without arguments.
+fn without_arguments<L: Ledger>(rt: &impl Abort, alloc: Global, blank: Blank) -> Result<(), Fail>
+    requires name { blank.name ≡ L.name }
+    requires parts { blank.parts ≡ L.parts }
+    requires some { 0 < L.parts }
+{
+    let mut steps = Steps::<L>::new(blank);
+    let shared = Shared::empty(alloc);
+    let mut machine = Machine::clone_of(alloc, &shared);
+    let entry = enter(alloc, &mut machine, &mut steps)?;
+    assert!(rt; machine.sizes().0 >= 13);
+    let this = checked(rt, &machine, Value::Obj(entry.request));
+    let mut caller = answering(1);
+    let answer = call(
+        alloc,
+        RETURN,
+        &mut caller,
+        &mut machine,
+        this,
+        &[],
+        false,
+        &mut steps,
+    );
+    assert!(rt; throws(rt, &machine, answer, caller, "not a number"));
+    Ok(())
+}
+
+#[test]
+fn a_status_is_wanted(rt: HostRuntime) -> Result<(), Fail> {
+    without_arguments::<Brand>(&rt, rt.alloc(), Blank::new(1))
+}
+
+// A second call throws before it converts anything, and leaves the answer of the first.
 fn second_call<L: Ledger>(rt: &impl Abort, alloc: Global, blank: Blank) -> Result<(), Fail>
     requires name { blank.name ≡ L.name }
     requires parts { blank.parts ≡ L.parts }
@@ -390,41 +459,36 @@ fn second_call<L: Ledger>(rt: &impl Abort, alloc: Global, blank: Blank) -> Resul
     let shared = Shared::empty(alloc);
     let mut machine = Machine::clone_of(alloc, &shared);
     let entry = enter(alloc, &mut machine, &mut steps)?;
-    let this = receiver_of(&entry, Request);
+    let this = Value::Obj(entry.request);
+    let text = add(rt, alloc, &mut machine, &entry, Given::Object, &mut steps)?;
+    let (ok, failed, none) = (Value::Num(200), Value::Num(500), Value::Null);
     let mut caller = answering(3);
-    let first = Both(Num(200), Str("a"));
-    let second = Both(Num(500), Object);
-    assert!(rt;
-        returned(
-            rt,
-            alloc,
-            &mut caller,
-            &mut machine,
-            &entry,
-            this,
-            first,
-            &mut steps
-        )? == Ok(Value::Undefined)
-    );
-    let Err(Stop::Throw(error)) = returned(
+    let first = returned(
         rt,
         alloc,
         &mut caller,
         &mut machine,
-        &entry,
         this,
-        second,
+        ok,
+        none,
         &mut steps,
-    )?
-    else {
-        return Err("no throw")?;
-    };
-    assert!(rt; has_message(rt, &machine, error, "response state"));
-    assert!(rt; caller.left == 1);
-    match &caller.into_reply() {
-        Some(reply) => assert!(rt; is_reply(reply, 200, "a")),
-        None => return Err("no reply")?,
+    );
+    let second = returned(
+        rt,
+        alloc,
+        &mut caller,
+        &mut machine,
+        this,
+        failed,
+        text,
+        &mut steps,
+    );
+    match second {
+        Err(Stop::Throw(error)) => assert!(rt; has_message(rt, &machine, error, "response state")),
+        _ => return Err("no throw")?,
     }
+    assert!(rt; caller.left == 1);
+    assert!(rt; answers(first, caller, 200, "null"));
     Ok(())
 }
 
