@@ -192,6 +192,19 @@ fn answers(answer: Result<Value, Stop>, caller: Answering, status: u16, body: &s
     }
 }
 
+// Whether a call threw an error with this message.
+fn is_error(
+    rt: &impl Abort,
+    machine: &Machine<'_>,
+    answer: Result<Value, Stop>,
+    message: &'static str,
+) -> bool {
+    match answer {
+        Err(Stop::Throw(value)) => has_message(rt, machine, value, message),
+        _ => false,
+    }
+}
+
 // Whether a call threw an error with this message, and nothing is answered.
 fn throws(
     rt: &impl Abort,
@@ -200,12 +213,7 @@ fn throws(
     caller: Answering,
     message: &'static str,
 ) -> bool {
-    match answer {
-        Err(Stop::Throw(value)) => {
-            has_message(rt, machine, value, message) && caller.into_reply().is_none()
-        }
-        _ => false,
-    }
+    is_error(rt, machine, answer, message) && caller.into_reply().is_none()
 }
 
 // A number, and whether it is a status that is answered.
@@ -348,73 +356,79 @@ fn a_text_is_the_body(rt: HostRuntime) -> Result<(), Fail> {
     bodies::<Brand>(&rt, rt.alloc(), BODIES, Blank::new(1))
 }
 
-// Another receiver, no number and no tick.
-fn refusals<L: Ledger>(rt: &impl Abort, alloc: Global, blank: Blank) -> Result<(), Fail>
+// Whose method is called.
+#[derive(Clone, Copy)]
+enum Receiver {
+    Request,
+    Prototype,
+    Number,
+}
+
+// A receiver, a status, and the message of the error.
+type Refusal = (Receiver, Given, &'static str);
+
+const REFUSALS: &[Refusal] = &[
+    (Receiver::Prototype, Given::Num(99), "wrong receiver"),
+    (Receiver::Number, Given::Num(200), "wrong receiver"),
+    (Receiver::Request, Given::Undefined, "not a number"),
+    (Receiver::Request, Given::Str("ok"), "not a number"),
+];
+
+fn this_of(entry: &Entry, receiver: Receiver) -> Value {
+    match receiver {
+        Receiver::Request => Value::Obj(entry.request),
+        Receiver::Prototype => Value::Obj(entry.up),
+        Receiver::Number => Value::Num(1),
+    }
+}
+
+fn refusal_case<L: Ledger>(
+    rt: &impl Abort,
+    alloc: Global,
+    case: Refusal,
+    steps: &mut Steps<L>,
+) -> Result<(), Fail> {
+    let (receiver, given, message) = case;
+    let shared = Shared::empty(alloc);
+    let mut machine = Machine::clone_of(alloc, &shared);
+    let entry = enter(alloc, &mut machine, steps)?;
+    let this = this_of(&entry, receiver);
+    let status = add(rt, alloc, &mut machine, &entry, given, steps)?;
+    let mut caller = answering(1);
+    let answer = returned(
+        rt,
+        alloc,
+        &mut caller,
+        &mut machine,
+        this,
+        status,
+        Value::Null,
+        steps,
+    );
+    assert!(rt; throws(rt, &machine, answer, caller, message));
+    Ok(())
+}
+
+fn refusals<L: Ledger>(
+    rt: &impl Abort,
+    alloc: Global,
+    cases: &[Refusal],
+    blank: Blank,
+) -> Result<(), Fail>
     requires name { blank.name ≡ L.name }
     requires parts { blank.parts ≡ L.parts }
     requires some { 0 < L.parts }
 {
     let mut steps = Steps::<L>::new(blank);
-    let shared = Shared::empty(alloc);
-    let mut machine = Machine::clone_of(alloc, &shared);
-    let entry = enter(alloc, &mut machine, &mut steps)?;
-    let (this, up) = (Value::Obj(entry.request), Value::Obj(entry.up));
-    let (low, none) = (Value::Num(99), Value::Undefined);
-    let mut first = answering(1);
-    let answer = returned(
-        rt,
-        alloc,
-        &mut first,
-        &mut machine,
-        up,
-        low,
-        none,
-        &mut steps,
-    );
-    assert!(rt; throws(rt, &machine, answer, first, "wrong receiver"));
-    let mut second = answering(1);
-    let answer = returned(
-        rt,
-        alloc,
-        &mut second,
-        &mut machine,
-        low,
-        low,
-        none,
-        &mut steps,
-    );
-    assert!(rt; throws(rt, &machine, answer, second, "wrong receiver"));
-    let mut third = answering(1);
-    let answer = returned(
-        rt,
-        alloc,
-        &mut third,
-        &mut machine,
-        this,
-        none,
-        none,
-        &mut steps,
-    );
-    assert!(rt; throws(rt, &machine, answer, third, "not a number"));
-    let mut spent = answering(0);
-    let answer = returned(
-        rt,
-        alloc,
-        &mut spent,
-        &mut machine,
-        this,
-        low,
-        none,
-        &mut steps,
-    );
-    assert!(rt; answer == Err(Stop::Fuel));
-    assert!(rt; !can_construct(RETURN));
+    for case in cases {
+        refusal_case(rt, alloc, *case, &mut steps)?;
+    }
     Ok(())
 }
 
 #[test]
 fn what_is_no_answer_is_refused(rt: HostRuntime) -> Result<(), Fail> {
-    refusals::<Brand>(&rt, rt.alloc(), Blank::new(1))
+    refusals::<Brand>(&rt, rt.alloc(), REFUSALS, Blank::new(1))
 }
 
 // A call without arguments.
@@ -449,52 +463,107 @@ fn a_status_is_wanted(rt: HostRuntime) -> Result<(), Fail> {
     without_arguments::<Brand>(&rt, rt.alloc(), Blank::new(1))
 }
 
-// A second call throws before it converts anything, and leaves the answer of the first.
+// Two calls, of which the second is answered here.
+fn twice<L: Ledger>(
+    rt: &impl Abort,
+    alloc: Global,
+    caller: &mut Answering,
+    machine: &mut Machine<'_>,
+    this: Value,
+    text: Value,
+    steps: &mut Steps<L>,
+) -> Result<Value, Stop> {
+    let first = returned(
+        rt,
+        alloc,
+        caller,
+        machine,
+        this,
+        Value::Num(200),
+        Value::Null,
+        steps,
+    );
+    assert!(rt; first == Ok(Value::Undefined));
+    returned(
+        rt,
+        alloc,
+        caller,
+        machine,
+        this,
+        Value::Num(500),
+        text,
+        steps,
+    )
+}
+
+// The second throws before it converts anything, and leaves the answer of the first.
+fn second_case<L: Ledger>(
+    rt: &impl Abort,
+    alloc: Global,
+    steps: &mut Steps<L>,
+) -> Result<(), Fail> {
+    let shared = Shared::empty(alloc);
+    let mut machine = Machine::clone_of(alloc, &shared);
+    let entry = enter(alloc, &mut machine, steps)?;
+    let this = Value::Obj(entry.request);
+    let text = add(rt, alloc, &mut machine, &entry, Given::Object, steps)?;
+    let mut caller = answering(3);
+    let second = twice(rt, alloc, &mut caller, &mut machine, this, text, steps);
+    assert!(rt; is_error(rt, &machine, second, "response state"));
+    assert!(rt; caller.left == 1);
+    assert!(rt; answers(Ok(Value::Undefined), caller, 200, "null"));
+    Ok(())
+}
+
 fn second_call<L: Ledger>(rt: &impl Abort, alloc: Global, blank: Blank) -> Result<(), Fail>
     requires name { blank.name ≡ L.name }
     requires parts { blank.parts ≡ L.parts }
     requires some { 0 < L.parts }
 {
     let mut steps = Steps::<L>::new(blank);
-    let shared = Shared::empty(alloc);
-    let mut machine = Machine::clone_of(alloc, &shared);
-    let entry = enter(alloc, &mut machine, &mut steps)?;
-    let this = Value::Obj(entry.request);
-    let text = add(rt, alloc, &mut machine, &entry, Given::Object, &mut steps)?;
-    let (ok, failed, none) = (Value::Num(200), Value::Num(500), Value::Null);
-    let mut caller = answering(3);
-    let first = returned(
-        rt,
-        alloc,
-        &mut caller,
-        &mut machine,
-        this,
-        ok,
-        none,
-        &mut steps,
-    );
-    let second = returned(
-        rt,
-        alloc,
-        &mut caller,
-        &mut machine,
-        this,
-        failed,
-        text,
-        &mut steps,
-    );
-    match second {
-        Err(Stop::Throw(error)) => assert!(rt; has_message(rt, &machine, error, "response state")),
-        _ => return Err("no throw")?,
-    }
-    assert!(rt; caller.left == 1);
-    assert!(rt; answers(first, caller, 200, "null"));
-    Ok(())
+    second_case(rt, alloc, &mut steps)
 }
 
 #[test]
 fn there_is_one_answer(rt: HostRuntime) -> Result<(), Fail> {
     second_call::<Brand>(&rt, rt.alloc(), Blank::new(1))
+}
+
+// A call takes a tick, or says that there is none.
+fn spent_case<L: Ledger>(rt: &impl Abort, alloc: Global, steps: &mut Steps<L>) -> Result<(), Fail> {
+    let shared = Shared::empty(alloc);
+    let mut machine = Machine::clone_of(alloc, &shared);
+    let entry = enter(alloc, &mut machine, steps)?;
+    let this = Value::Obj(entry.request);
+    let mut caller = answering(0);
+    let status = Value::Num(200);
+    let answer = returned(
+        rt,
+        alloc,
+        &mut caller,
+        &mut machine,
+        this,
+        status,
+        Value::Null,
+        steps,
+    );
+    assert!(rt; answer == Err(Stop::Fuel));
+    assert!(rt; !can_construct(RETURN));
+    Ok(())
+}
+
+fn spent<L: Ledger>(rt: &impl Abort, alloc: Global, blank: Blank) -> Result<(), Fail>
+    requires name { blank.name ≡ L.name }
+    requires parts { blank.parts ≡ L.parts }
+    requires some { 0 < L.parts }
+{
+    let mut steps = Steps::<L>::new(blank);
+    spent_case(rt, alloc, &mut steps)
+}
+
+#[test]
+fn a_call_takes_a_tick(rt: HostRuntime) -> Result<(), Fail> {
+    spent::<Brand>(&rt, rt.alloc(), Blank::new(1))
 }
 
 fn entry_objects<L: Ledger>(rt: &impl Abort, alloc: Global, blank: Blank) -> Result<(), Fail>

@@ -21,7 +21,7 @@ returns-clause-told g c = λ calls known follows agrees. record {
       let f = content h.texts c.args._callee in
       let this = content h.texts c.args._this in
       let args = map (content h.texts) c.args._args.now in
-      answered_call h.texts own.number own.left c.number_value.result f this args calls.call _ _ s (follows.0 f this args s) stands.1 some
+      answered_call h.texts own.number own.left c.number_value.result f this args calls.call _ (λ t. Unit {0}) s (follows.0 f this args s) stands.1 some
       (c.number_value.ensures.shows h.texts ∙ ap (λ n. Simple (Number n)) (to_z-of_z w32 own.number fits))
       (stands.0, ap (λ t. t - 1) stands.1, stands.2, sym (c.answer.ensures ∙ ap (λ head. whole head c.fixed.result) c.plain-head.ensures ∙ ap (whole (plain_head 500)) c.fixed.ensures));
 }
