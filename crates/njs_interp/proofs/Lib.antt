@@ -33,3 +33,11 @@ pub mod Going
 pub mod Cutting
 pub mod Leading
 pub mod AskedHeap
+pub mod Onward
+pub mod Failures
+pub mod Stepped
+pub mod NextNames
+pub mod CallOperands
+pub mod FunctionsFitted
+pub mod ClosureScopes
+pub mod HeldTells

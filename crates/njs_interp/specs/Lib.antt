@@ -17,3 +17,9 @@ pub mod Leading
 pub mod Hosts
 pub mod Standing
 pub mod Owned
+pub mod Stepping
+pub mod Updates
+pub mod NextNames
+pub mod Held
+pub mod Closures
+pub mod Dispatch
