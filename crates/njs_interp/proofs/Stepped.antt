@@ -3,6 +3,8 @@ use Rattle.std.proofs.Common.{◌≡◌, ℤ, pos, Result, Ok, Err, map, refl, s
 use Rattle.njs_tree.specs.declared.tree.UpdateOp.{UpdateOp}
 use Rattle.njs_tree.specs.declared.tree.UpdateOp.TheVariants as step
 use Rattle.njs_value.specs.declared.Value.{Value}
+use Rattle.njs_value.specs.declared.Value.TheVariants as value
+use Rattle.njs_clone.specs.Content.{content}
 use Rattle.njs_shared.specs.Heap.{Heap}
 use Rattle.njs_shared.specs.Fits.{FitsHeap}
 use Rattle.njs_clone.specs.StandsFor.{plain_objects}
@@ -24,6 +26,7 @@ use Rattle.njs_interp.specs.Acts.{OnHeap, Unanswered}
 use Rattle.njs_interp.specs.Alone.{WithObjects, TellsAlone}
 use Rattle.njs_interp.specs.Outcomes.{Tells, MeansOnHeap, Moves}
 use Rattle.njs_interp.specs.Updates.{step_operator}
+use Rattle.njs_interp.proofs.Kept.{OnHeap-refl}
 use Rattle.njs_interp.proofs.Standing.{slots_same}
 
 pub step-moves : (op : UpdateOp) → Moves (kind.Step op) 1 1
@@ -67,3 +70,15 @@ stepped-is step.Sub n s = refl
 
 pub means-stepped : (h k : Heap) (r : Result Value Stop) (op : UpdateOp) (n : ℤ) → MeansOnHeap h k r (answered (binary_of (step_operator op) (Number n) (Number (pos 1)))) → MeansOnHeap h k r (stepped_from op (Simple (Number n)))
 means-stepped h k r op n means = record { by = λ s stands. subst (Tells (OnHeap k s) (Unanswered s) k.texts r) (stepped-is op n s) (means.by s stands) }
+
+-- a value that is a number, and one that is none
+pub number-means : (h k : Heap) (r : Result Value Stop) (op : UpdateOp) (v : Value) {m : ℤ} → v ≡ value.Num m → ((n : ℤ) → content h.texts v ≡ Simple (Number n) → MeansOnHeap h k r (stepped_from op (Simple (Number n)))) → MeansOnHeap h k r (stepped_from op (content h.texts v))
+number-means h k r op v {m} is told = subst (λ p. MeansOnHeap h k r (stepped_from op p)) (sym (ap (content h.texts) is)) (told m (ap (content h.texts) is))
+
+pub stays-means : (h : Heap) (op : UpdateOp) (v : Value) → ((n : ℤ) → v ≡ value.Num n → ⊥) → MeansOnHeap h h (Ok v) (stepped_from op (content h.texts v))
+stays-means h op value.Undefined other = record { by = λ s stands. (refl, OnHeap-refl h s stands) }
+stays-means h op value.Null other = record { by = λ s stands. (refl, OnHeap-refl h s stands) }
+stays-means h op (value.Bool b) other = record { by = λ s stands. (refl, OnHeap-refl h s stands) }
+stays-means h op (value.Num n) other = absurd (other n refl)
+stays-means h op (value.Str t) other = record { by = λ s stands. (refl, OnHeap-refl h s stands) }
+stays-means h op (value.Obj o) other = record { by = λ s stands. (refl, OnHeap-refl h s stands) }

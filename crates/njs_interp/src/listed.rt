@@ -71,12 +71,12 @@ pub(crate) fn next_name(
     }
 }
 
-// Drops the list on top.
-fn drop_last(lists: &mut Vec<Listing>)
+// Takes the list on top.
+fn take_last(lists: &mut Vec<Listing>) -> Listing
     requires { 0 < length lists.old.items }
-    ensures { (l : Listing) × (lists.old.items ≡ lists.new.items ++ l ∷ []) }
+    ensures { lists.old.items ≡ lists.new.items ++ result ∷ [] }
 {
-    lists.pop();
+    lists.pop().unwrap()
 }
 
 /// Drops the list.
@@ -92,6 +92,6 @@ pub(crate) fn drop_list(
 {
     let _op = at.op;
     let _sizes = machine.sizes();
-    drop_last(&mut stacks.lists);
+    take_last(&mut stacks.lists);
     Ok(())
 }

@@ -1,13 +1,12 @@
 // The number after `++` and `--` (ECMA-262 5.1 §11.3, §11.4.4, §11.4.5).
-ghost use Rattle.std.specs.Prelude.{◌≡◌, ◌≤◌, length};
-ghost use Rattle.njs_value.specs.Number.{IsSafe};
+ghost use Rattle.std.specs.Prelude.{◌≡◌, ◌≤◌, ℤ, length};
 ghost use Rattle.njs_shared.specs.Heap.{sizes};
 ghost use Rattle.njs_shared.specs.Fits.{FitsValue};
 ghost use Rattle.njs_clone.specs.Content.{content};
 ghost use Rattle.njs_meaning.specs.Primitives.{Number};
 ghost use Rattle.njs_meaning.specs.Values.{Simple};
 ghost use Rattle.njs_meaning.specs.Errors.{first_count};
-ghost use Rattle.njs_convert.specs.Tells.{Extends, FitsAnswer};
+ghost use Rattle.njs_convert.specs.Tells.{Extends, FitsAnswer, FitsSimple};
 ghost use Rattle.njs_simul.specs.Step.{stepped_from};
 ghost use Rattle.njs_interp.specs.Outcomes.{MeansOnHeap};
 ghost use Rattle.njs_interp.specs.Updates.{step_operator};
@@ -36,26 +35,19 @@ fn stepped<L: Ledger>(
     alloc: Global,
     machine: &mut Machine<'_>,
     op: UpdateOp,
-    number: i64,
+    number: Value,
     steps: &mut Steps<L>,
 ) -> Result<Value, Stop>
     requires first { first_count ≤ length machine.old.objects }
-    requires number { IsSafe number }
-    ensures told { MeansOnHeap machine.old machine.new result (stepped_from op (Simple (Number number))) }
+    requires number { FitsSimple (sizes machine.old) number }
+    ensures told { (n : ℤ) → content machine.old.texts number ≡ Simple (Number n) → MeansOnHeap machine.old machine.new result (stepped_from op (Simple (Number n))) }
     ensures extends { Extends machine.old machine.new }
     ensures value { FitsAnswer (FitsValue (sizes machine.new)) (sizes machine.new) result }
     ensures steps { steps.old ≤ steps.new }
 {
     let _sizes = machine.sizes();
     let operator = operator_of(op);
-    of_two(
-        alloc,
-        machine,
-        operator,
-        Value::Num(number),
-        Value::Num(1),
-        steps,
-    )
+    of_two(alloc, machine, operator, number, Value::Num(1), steps)
 }
 
 /// The number after a number; any other value stays.
@@ -74,9 +66,7 @@ pub fn stepped_from<L: Ledger>(
     ensures steps { steps.old ≤ steps.new }
 {
     match value {
-        Value::Num(number) => stepped(alloc, machine, op, number, steps),
-        Value::Undefined | Value::Null | Value::Bool(_) | Value::Str(_) | Value::Obj(_) => {
-            Ok(value)
-        }
+        Value::Num(_) => stepped(alloc, machine, op, value, steps),
+        _ => Ok(value),
     }
 }

@@ -1,0 +1,151 @@
+-- Steps: what single operations tell, told of one step.
+use Rattle.std.proofs.Common.{◌≡◌, ℕ, List, true, Result, Ok, Err, refl, sym, ap, ◌∙◌, subst}
+use Rattle.njs_value.specs.declared.Value.{Value}
+use Rattle.njs_shared.specs.Heap.{Heap}
+use Rattle.njs_code.specs.declared.op.Kind.{Kind}
+use Rattle.njs_code.specs.declared.op.Op.{Op}
+use Rattle.njs_code.specs.declared.code.FunctionCode.{FunctionCode}
+use Rattle.njs_code.specs.Effects.{goes_on}
+use Rattle.njs_meaning.specs.Running.{Calls}
+use Rattle.njs_meaning.specs.State.{State, Outcome, Gives, Throws, Spent, Asks}
+use Rattle.njs_meaning.specs.Replies.{state_of}
+use Rattle.njs_convert.specs.declared.stop.Stop.{Stop}
+use Rattle.njs_convert.specs.declared.stop.Stop.TheVariants.{Throw, Fuel, NoMemory}
+use Rattle.njs_convert.specs.FirstHeap.{StandsFor}
+use Rattle.njs_simul.specs.Stacks as plain
+use Rattle.njs_simul.specs.Stacks.{Frame, Ended, Thrown}
+use Rattle.njs_simul.specs.Step.{Action, Goes, Ends, Leads, Stuck, act, from}
+use Rattle.njs_interp.specs.declared.next.Next.{Next}
+use Rattle.njs_interp.specs.declared.next.Next.TheVariants as next
+use Rattle.njs_interp.specs.declared.stacks.Stacks.{Stacks}
+use Rattle.njs_interp.specs.Plain.{heap_of, plain_stacks}
+use Rattle.njs_interp.specs.Acts.{SameBeside, OnHeap, Unanswered, Acts, state_in}
+use Rattle.njs_interp.specs.Tells.{IsFrame, ActsOnHeap, ActsInCall, Leaves}
+use Rattle.njs_interp.specs.Jumps.{ActsNext, JumpsOnHeap, LeavesNext}
+use Rattle.njs_interp.specs.Asked.{ActsAsked}
+use Rattle.njs_interp.specs.Stepping.{GoesTo, Steps}
+use Rattle.njs_interp.specs.Dispatch.{Continues, next_after, AsksInCall}
+use Rattle.njs_interp.proofs.AskedHeap.{state_by, in_call_asked}
+
+-- ---- an answer that goes on behind the operation
+
+pub acts_next : (holds stopped : State → Type 0) (texts : List (List ℕ)) (at : ℕ → List Op) (rest : List Op) (after : plain.Stacks) (r : Result (Unit {0}) Stop) (a : Action)
+    → Acts holds stopped texts rest after r a → ActsNext holds stopped texts at rest after (next_after r) a
+acts_next holds stopped texts at rest after (Ok done) (Goes ops st t) told = told
+acts_next holds stopped texts at rest after (Ok done) (Ends (Gives v t)) told = absurd told
+acts_next holds stopped texts at rest after (Ok done) (Ends (Throws v t)) told = absurd told
+acts_next holds stopped texts at rest after (Ok done) (Ends (Spent t)) told = absurd told
+acts_next holds stopped texts at rest after (Ok done) (Ends (Asks zone op t)) told = absurd told
+acts_next holds stopped texts at rest after (Ok done) (Leads (Ended e) st t) told = absurd told
+acts_next holds stopped texts at rest after (Ok done) (Leads (Thrown w) st t) told = absurd told
+acts_next holds stopped texts at rest after (Ok done) Stuck told = absurd told
+acts_next holds stopped texts at rest after (Err (Throw x)) (Goes ops st t) told = absurd told
+acts_next holds stopped texts at rest after (Err (Throw x)) (Ends (Gives v t)) told = absurd told
+acts_next holds stopped texts at rest after (Err (Throw x)) (Ends (Throws v t)) told = absurd told
+acts_next holds stopped texts at rest after (Err (Throw x)) (Ends (Spent t)) told = absurd told
+acts_next holds stopped texts at rest after (Err (Throw x)) (Ends (Asks zone op t)) told = absurd told
+acts_next holds stopped texts at rest after (Err (Throw x)) (Leads (Ended e) st t) told = absurd told
+acts_next holds stopped texts at rest after (Err (Throw x)) (Leads (Thrown w) st t) told = told
+acts_next holds stopped texts at rest after (Err (Throw x)) Stuck told = absurd told
+acts_next holds stopped texts at rest after (Err Fuel) (Goes ops st t) told = absurd told
+acts_next holds stopped texts at rest after (Err Fuel) (Ends (Gives v t)) told = absurd told
+acts_next holds stopped texts at rest after (Err Fuel) (Ends (Throws v t)) told = absurd told
+acts_next holds stopped texts at rest after (Err Fuel) (Ends (Spent t)) told = told
+acts_next holds stopped texts at rest after (Err Fuel) (Ends (Asks zone op t)) told = absurd told
+acts_next holds stopped texts at rest after (Err Fuel) (Leads (Ended e) st t) told = absurd told
+acts_next holds stopped texts at rest after (Err Fuel) (Leads (Thrown w) st t) told = absurd told
+acts_next holds stopped texts at rest after (Err Fuel) Stuck told = absurd told
+acts_next holds stopped texts at rest after (Err NoMemory) a told = told
+
+pub goes_next : (k : Kind) (r : Result (Unit {0}) Stop) → Continues k r → GoesTo k (next_after r)
+goes_next k (Ok done) on = on
+goes_next k (Err stop) on = tt
+
+pub leaves_next : (f : FunctionCode) (op : Op) (h : Heap) (st : Stacks) (r : Result (Unit {0}) Stop) → Leaves f op h st r → LeavesNext f op h st (next_after r)
+leaves_next f op h st (Ok done) sits = sits
+leaves_next f op h st (Err (Throw v)) sits = sits
+leaves_next f op h st (Err Fuel) sits = tt
+leaves_next f op h st (Err NoMemory) sits = tt
+
+-- ---- what is known of the states then may be known by other words
+
+pub next_by : (holds holds' stopped stopped' : State → Type 0) (texts : List (List ℕ)) (at : ℕ → List Op) (rest : List Op) (after : plain.Stacks) (r : Result Next Stop) (a : Action)
+    → ((t : State) → holds t → holds' t) → ((t : State) → stopped t → stopped' t) → ActsNext holds stopped texts at rest after r a → ActsNext holds' stopped' texts at rest after r a
+next_by holds holds' stopped stopped' texts at rest after (Ok next.On) (Goes ops st t) f g told = (told.0, told.1, f t told.2)
+next_by holds holds' stopped stopped' texts at rest after (Ok next.On) (Ends (Gives v t)) f g told = absurd told
+next_by holds holds' stopped stopped' texts at rest after (Ok next.On) (Ends (Throws v t)) f g told = absurd told
+next_by holds holds' stopped stopped' texts at rest after (Ok next.On) (Ends (Spent t)) f g told = absurd told
+next_by holds holds' stopped stopped' texts at rest after (Ok next.On) (Ends (Asks zone op t)) f g told = absurd told
+next_by holds holds' stopped stopped' texts at rest after (Ok next.On) (Leads (Ended c) st t) f g told = absurd told
+next_by holds holds' stopped stopped' texts at rest after (Ok next.On) (Leads (Thrown w) st t) f g told = absurd told
+next_by holds holds' stopped stopped' texts at rest after (Ok next.On) Stuck f g told = absurd told
+next_by holds holds' stopped stopped' texts at rest after (Ok (next.To to)) (Goes ops st t) f g told = (told.0, told.1, f t told.2)
+next_by holds holds' stopped stopped' texts at rest after (Ok (next.To to)) (Ends (Gives v t)) f g told = absurd told
+next_by holds holds' stopped stopped' texts at rest after (Ok (next.To to)) (Ends (Throws v t)) f g told = absurd told
+next_by holds holds' stopped stopped' texts at rest after (Ok (next.To to)) (Ends (Spent t)) f g told = absurd told
+next_by holds holds' stopped stopped' texts at rest after (Ok (next.To to)) (Ends (Asks zone op t)) f g told = absurd told
+next_by holds holds' stopped stopped' texts at rest after (Ok (next.To to)) (Leads (Ended c) st t) f g told = absurd told
+next_by holds holds' stopped stopped' texts at rest after (Ok (next.To to)) (Leads (Thrown w) st t) f g told = absurd told
+next_by holds holds' stopped stopped' texts at rest after (Ok (next.To to)) Stuck f g told = absurd told
+next_by holds holds' stopped stopped' texts at rest after (Ok (next.Out e)) (Goes ops st t) f g told = absurd told
+next_by holds holds' stopped stopped' texts at rest after (Ok (next.Out e)) (Ends (Gives v t)) f g told = absurd told
+next_by holds holds' stopped stopped' texts at rest after (Ok (next.Out e)) (Ends (Throws v t)) f g told = absurd told
+next_by holds holds' stopped stopped' texts at rest after (Ok (next.Out e)) (Ends (Spent t)) f g told = absurd told
+next_by holds holds' stopped stopped' texts at rest after (Ok (next.Out e)) (Ends (Asks zone op t)) f g told = absurd told
+next_by holds holds' stopped stopped' texts at rest after (Ok (next.Out e)) (Leads (Ended c) st t) f g told = (told.0, told.1, f t told.2)
+next_by holds holds' stopped stopped' texts at rest after (Ok (next.Out e)) (Leads (Thrown w) st t) f g told = (told.0, told.1, f t told.2)
+next_by holds holds' stopped stopped' texts at rest after (Ok (next.Out e)) Stuck f g told = absurd told
+next_by holds holds' stopped stopped' texts at rest after (Err (Throw x)) (Goes ops st t) f g told = absurd told
+next_by holds holds' stopped stopped' texts at rest after (Err (Throw x)) (Ends (Gives v t)) f g told = absurd told
+next_by holds holds' stopped stopped' texts at rest after (Err (Throw x)) (Ends (Throws v t)) f g told = absurd told
+next_by holds holds' stopped stopped' texts at rest after (Err (Throw x)) (Ends (Spent t)) f g told = absurd told
+next_by holds holds' stopped stopped' texts at rest after (Err (Throw x)) (Ends (Asks zone op t)) f g told = absurd told
+next_by holds holds' stopped stopped' texts at rest after (Err (Throw x)) (Leads (Ended c) st t) f g told = absurd told
+next_by holds holds' stopped stopped' texts at rest after (Err (Throw x)) (Leads (Thrown w) st t) f g told = (told.0, told.1, f t told.2)
+next_by holds holds' stopped stopped' texts at rest after (Err (Throw x)) Stuck f g told = absurd told
+next_by holds holds' stopped stopped' texts at rest after (Err Fuel) (Goes ops st t) f g told = absurd told
+next_by holds holds' stopped stopped' texts at rest after (Err Fuel) (Ends (Gives v t)) f g told = absurd told
+next_by holds holds' stopped stopped' texts at rest after (Err Fuel) (Ends (Throws v t)) f g told = absurd told
+next_by holds holds' stopped stopped' texts at rest after (Err Fuel) (Ends (Spent t)) f g told = f t told
+next_by holds holds' stopped stopped' texts at rest after (Err Fuel) (Ends (Asks zone op t)) f g told = absurd told
+next_by holds holds' stopped stopped' texts at rest after (Err Fuel) (Leads (Ended c) st t) f g told = absurd told
+next_by holds holds' stopped stopped' texts at rest after (Err Fuel) (Leads (Thrown w) st t) f g told = absurd told
+next_by holds holds' stopped stopped' texts at rest after (Err Fuel) Stuck f g told = absurd told
+next_by holds holds' stopped stopped' texts at rest after (Err NoMemory) a f g told = state_by stopped stopped' a g told
+
+-- ---- steps
+
+-- whatever the call is
+pub in_any_call : (unit : ℕ) (this : Value) (args : List Value) (k : Kind) (old new : Heap) (before after : Stacks) (r : Result (Unit {0}) Stop) → ActsOnHeap k old new before after r → ActsInCall unit this args k old new before after r
+in_any_call unit this args k old new before after r told = record { by = λ frame code rest s is stands. told.by frame code rest s stands }
+
+module _ (follows : Calls → Type 0) (agrees : Type 0) (stands holds stopped : State → Type 0) (unit : ℕ) (this : Value) (args : List Value) (k : Kind) (old new : Heap) (before after : Stacks) where
+  -- an operation that asks a caller
+  pub steps_called : (r : Result (Unit {0}) Stop) → AsksInCall follows agrees stands holds stopped unit this args k old new before after r
+      → Steps follows agrees stands holds stopped unit this args k old new before after (next_after r)
+  steps_called r told = record {
+    by = λ calls frame code rest s f g same is here.
+        acts_next holds stopped new.texts (from frame code) rest (plain_stacks new.texts after) r (act frame code k rest (plain_stacks old.texts before) s) (told.by calls frame code rest s f g same is here);
+  }
+
+  pub in_call : (r : Result (Unit {0}) Stop) → ActsAsked follows agrees stands holds stopped k old new before after r → AsksInCall follows agrees stands holds stopped unit this args k old new before after r
+  in_call r told = record { by = λ calls frame code rest s f g same is here. told.by calls frame code rest s f g same here }
+
+  -- a runner's laws, at what it knows and between the two heaps
+  module _ (heap_is : (s : State) → stands s → StandsFor old (heap_of s)) (holds_by : (s t : State) → stands s → StandsFor new (heap_of t) → SameBeside s t → holds t)
+      (stops : (s : State) → stands s → stopped s) (same : (s t : State) → t.zones ≡ s.zones → t.asked ≡ s.asked → stopped s → stopped t) where
+    -- an operation on the heap
+    pub steps_heap : (r : Result (Unit {0}) Stop) → ActsInCall unit this args k old new before after r → Steps follows agrees stands holds stopped unit this args k old new before after (next_after r)
+    steps_heap r told = record {
+      by = λ calls frame code rest s f g same_calls is here.
+          acts_next holds stopped new.texts (from frame code) rest (plain_stacks new.texts after) r (act frame code k rest (plain_stacks old.texts before) s)
+          (in_call_asked stands holds stopped old new heap_is holds_by stops same unit this args k before after r told frame code rest s is here);
+    }
+
+    -- one that may go on elsewhere
+    pub steps_jump : (r : Result Next Stop) → JumpsOnHeap k old new before after r → Steps follows agrees stands holds stopped unit this args k old new before after r
+    steps_jump r told = record {
+      by = λ calls frame code rest s f g same_calls is here.
+          next_by (OnHeap new s) holds (Unanswered s) stopped new.texts (from frame code) rest (plain_stacks new.texts after) r (act frame code k rest (plain_stacks old.texts before) s)
+          (λ t on. holds_by s t here on.stands on.beside) (λ t none. same s t none.zones none.asked (stops s here)) (told.by frame code rest s (heap_is s here));
+    }
