@@ -23,6 +23,7 @@ mod pile;
 mod runner;
 mod slots;
 mod stacks;
+mod step;
 mod taken;
 mod taking;
 
