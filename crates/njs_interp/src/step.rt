@@ -1,5 +1,5 @@
 // One step: the operation at a place of the code.
-ghost use Rattle.std.specs.Prelude.{◌≡◌, ◌≤◌, ◌<◌, ℕ, length, OnOk};
+ghost use Rattle.std.specs.Prelude.{◌≡◌, ◌≤◌, ◌<◌, ℕ, length, OnOk, OnErr, Err};
 ghost use Rattle.std.specs.List.{AllByRecursion};
 ghost use Rattle.njs_shared.specs.Heap.{sizes};
 ghost use Rattle.njs_shared.specs.Fits.{FitsValue};
@@ -40,6 +40,7 @@ pub(crate) fn step<'a, C: Runner<L>, L: Ledger>(
     ensures goes { GoesTo at.now.op.now.kind result }
     ensures leaves { LeavesNext at.now.function.now at.now.op.now machine.new stacks.new result }
     ensures falls { at.now.op.now.kind ≡ Kind.Charge → OnOk result (C.ticks_of caller.new < C.ticks_of caller.old) }
+    ensures spends { at.now.op.now.kind ≡ Kind.Charge → OnErr result (result ≡ Err Stop.Fuel) }
     ensures kept { (calls : Calls) (k : Known) → C.follows caller.old k calls → C.follows caller.new k calls }
     ensures agrees { (k : Known) → C.agrees caller.new k → C.agrees caller.old k }
     ensures may { C.may_call caller.new }
