@@ -18,3 +18,4 @@ pub mod Hosts
 pub mod Standing
 pub mod Owned
 pub mod Stepping
+pub mod Turning

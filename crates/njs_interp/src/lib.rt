@@ -20,12 +20,14 @@ mod operands;
 mod operators;
 mod own;
 mod pile;
+mod run;
 mod runner;
 mod slots;
 mod stacks;
 mod step;
 mod taken;
 mod taking;
+mod turn;
 
 pub use at::At;
 pub use host::{Fuel, Host};
