@@ -79,16 +79,7 @@ pub(crate) fn run_code<C: Runner<L>, L: Ledger>(
             function,
             op: op_at(function, place),
         };
-        match turn(
-            alloc,
-            &at,
-            place,
-            call,
-            caller,
-            machine,
-            &mut stacks,
-            steps,
-        ) {
+        match turn(alloc, &at, place, call, caller, machine, &mut stacks, steps) {
             Ok(Turned::Goes(to)) => place = to,
             Ok(Turned::Ends(value)) => return Ok(value),
             Err(stop) => return Err(stop),
