@@ -33,6 +33,9 @@ pub mod Going
 pub mod Cutting
 pub mod Leading
 pub mod AskedHeap
+pub mod Turning
+pub mod Running
+pub mod Lifting
 pub mod Onward
 pub mod Failures
 pub mod Stepped

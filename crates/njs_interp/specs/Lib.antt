@@ -18,6 +18,7 @@ pub mod Hosts
 pub mod Standing
 pub mod Owned
 pub mod Stepping
+pub mod Turning
 pub mod Updates
 pub mod NextNames
 pub mod Held

@@ -25,11 +25,14 @@ mod operands;
 mod operators;
 mod own;
 mod pile;
+mod run;
 mod runner;
 mod slots;
 mod stacks;
+mod step;
 mod taken;
 mod taking;
+mod turn;
 mod updates;
 
 pub use at::At;
