@@ -23,7 +23,8 @@ use Rattle.njs_interp.specs.declared.stacks.Stacks.{Stacks}
 use Rattle.njs_interp.specs.Plain.{plain_stacks}
 use Rattle.njs_interp.specs.Sits.{Sits}
 use Rattle.njs_interp.specs.Acts.{state_in}
-use Rattle.njs_interp.specs.Operands.{Takes, Gives, HasTaken}
+use Rattle.njs_interp.specs.Operands.{Takes, HasTaken}
+use Rattle.njs_interp.specs.Operands.{Gives as GivesOperands}
 use Rattle.njs_interp.proofs.Kept.{all-behind, all-front, all-joined, map-reversed}
 use Rattle.njs_interp.proofs.AskedFinish.{with_taken}
 
@@ -31,17 +32,17 @@ pub call_takes : (count : ℕ) (k : Kind) → k ≡ kind.Call count → Takes k 
 unfolding operands_taken scopes_taken lists_taken endings_taken
 call_takes count k is = subst (λ k. Takes k (count + 2)) (sym is) (record { operands = refl; scopes = refl; lists = refl; endings = refl })
 
-pub call_gives : (count : ℕ) (k : Kind) → k ≡ kind.Call count → Gives k 1
+pub call_gives : (count : ℕ) (k : Kind) → k ≡ kind.Call count → GivesOperands k 1
 unfolding operands_given scopes_given lists_given endings_given
-call_gives count k is = subst (λ k. Gives k 1) (sym is) (record { operands = refl; scopes = refl; lists = refl; endings = refl })
+call_gives count k is = subst (λ k. GivesOperands k 1) (sym is) (record { operands = refl; scopes = refl; lists = refl; endings = refl })
 
 pub new_takes : (count : ℕ) (k : Kind) → k ≡ kind.New count → Takes k (count + 1)
 unfolding operands_taken scopes_taken lists_taken endings_taken
 new_takes count k is = subst (λ k. Takes k (count + 1)) (sym is) (record { operands = refl; scopes = refl; lists = refl; endings = refl })
 
-pub new_gives : (count : ℕ) (k : Kind) → k ≡ kind.New count → Gives k 1
+pub new_gives : (count : ℕ) (k : Kind) → k ≡ kind.New count → GivesOperands k 1
 unfolding operands_given scopes_given lists_given endings_given
-new_gives count k is = subst (λ k. Gives k 1) (sym is) (record { operands = refl; scopes = refl; lists = refl; endings = refl })
+new_gives count k is = subst (λ k. GivesOperands k 1) (sym is) (record { operands = refl; scopes = refl; lists = refl; endings = refl })
 
 pub all-reversed : {X : Type 0} (P : X → Type 0) (xs : List X) → AllByRecursion P (reverse xs) → AllByRecursion P xs
 all-reversed P [] all = tt

@@ -4,17 +4,24 @@ use Rattle.std.proofs.lemmas.List.{length-map}
 use Rattle.std.proofs.lemmas.Bool.{le-ltb, lt-ltb}
 use Rattle.std.proofs.lemmas.Option.{slice_get_within}
 use Rattle.std.specs.Option.{option_map_or}
-use Rattle.std.specs.Prelude.{nat_lt}
+use Rattle.std.specs.Prelude.{nat_lt, IfOk, OnOk}
 use Rattle.njs_value.specs.declared.ScopeId.{ScopeId}
 use Rattle.njs_value.specs.declared.Value.{Value}
 use Rattle.njs_value.specs.declared.Value.TheVariants as value
 use Rattle.njs_shared.specs.declared.object.Scope.{Scope}
-use Rattle.njs_shared.specs.Heap.{Heap}
+use Rattle.njs_shared.specs.Heap.{Heap, sizes}
 use Rattle.njs_clone.specs.Content.{content}
 use Rattle.njs_clone.specs.Scopes.{slot_count}
 use Rattle.njs_code.specs.Valid.{slots_outwards, closure_slots}
 use Rattle.njs_code.specs.declared.op.Kind.TheVariants as kind
 use Rattle.njs_code.specs.declared.op.Op.{Op}
+use Rattle.njs_code.specs.declared.code.FunctionCode.{FunctionCode}
+use Rattle.njs_code.specs.Facts.{Names, HasFunction}
+use Rattle.njs_code.specs.Effects.{depth_left, operands_taken, operands_given, scopes_taken, scopes_given, lists_taken, lists_given, endings_taken, endings_given}
+use Rattle.njs_shared.specs.Fits.{FitsValue}
+use Rattle.njs_text.specs.declared.memory.NoMemory.{NoMemory as Refused}
+use Rattle.njs_convert.specs.Tells.{FitsAnswer}
+use Rattle.njs_interp.specs.declared.stacks.Stacks.{Stacks}
 use Rattle.njs_meaning.specs.Primitives.{Undefined}
 use Rattle.njs_meaning.specs.PlainHeap.{PlainScope, Script}
 use Rattle.njs_meaning.specs.Values.{PlainValue, Simple, ObjectAt}
@@ -31,12 +38,18 @@ use Rattle.njs_simul.specs.Stacks.{Frame, with_operands}
 use Rattle.njs_simul.specs.Step.{Action, Goes, act, finish, on, operands_of}
 use Rattle.njs_interp.specs.Plain.{heap_of}
 use Rattle.njs_interp.specs.Acts.{SameBeside, OnHeap, Unanswered}
-use Rattle.njs_interp.specs.Sits.{HasSlots, SlotsFrom}
+use Rattle.njs_interp.specs.Sits.{HasSlots, SlotsFrom, Sits, Ready}
 use Rattle.njs_interp.specs.Outcomes.{Tells, MeansOnHeap}
 use Rattle.njs_interp.specs.Making.{made_function, MakesScope, NamesFunction}
-use Rattle.njs_interp.specs.Closures.{scope_in, scoped, with_name_in, made_named, made_closure, HasName, HasSlotFor, NamesIn, ScopeFor, MakesNamed}
-use Rattle.njs_interp.proofs.Kept.{OnHeap-refl, Unanswered-refl}
-use Rattle.njs_interp.proofs.Reached.{from-within}
+use Rattle.njs_interp.specs.Closures.{scope_in, scoped, with_name_in, made_named, made_closure, HasName, HasSlotFor, NamesIn, CountedIn, ScopeFor, MakesNamed}
+use Rattle.njs_interp.specs.Outcomes.{Pushes, Moves}
+use Rattle.njs_interp.specs.Grown.{Widens, Grown}
+use Rattle.njs_interp.specs.Tells.{Leaves}
+use Rattle.njs_interp.specs.Hosts.{behind_own}
+use Rattle.njs_interp.specs.Stepping.{CountsAre}
+use Rattle.njs_interp.proofs.Kept.{OnHeap-refl, SlotsFrom-widened, Sits-widened}
+use Rattle.njs_interp.proofs.Sitting.{sits-taken, push-leaves}
+use Rattle.njs_interp.proofs.Reached.{innermost-from}
 use Rattle.njs_interp.proofs.NamedScopes.{last_there}
 use Rattle.njs_interp.proofs.Paying.{err_same}
 
@@ -200,3 +213,62 @@ closure_is frame code rest number params name st s = is name ∙ same name (nat_
     is : (name : Option (List ℕ)) → act frame code (kind.Closure number params name) rest st s ≡ tested name (nat_lt s.ticks 1)
     is None = refl
     is (Some n) = refl
+
+-- ---- states beside the ticks
+
+pub has-name-paid : (name : Option (List ℕ)) (scope : ScopeId) (s : State) (left : ℕ) → HasName name scope s → HasName name scope (record s { ticks = left })
+has-name-paid None scope s left has = tt
+has-name-paid (Some name) scope s left has = has
+
+pub scoped-paid : (name : Option (List ℕ)) (parent : ScopeId) (s : State) (left : ℕ) → SameBeside (record s { ticks = left }) (record (scoped name parent s) { ticks = left })
+scoped-paid None parent s left = record { response = refl; zones = refl; asked = refl; log = refl; ticks = refl }
+scoped-paid (Some name) parent s left = record { response = refl; zones = refl; asked = refl; log = refl; ticks = refl }
+
+-- the ticks that are left are those that were there
+pub scoped-unpaid : (name : Option (List ℕ)) (parent : ScopeId) (s : State) (left : ℕ) → left ≡ s.ticks → SameBeside (record s { ticks = left }) (scoped name parent s)
+scoped-unpaid None parent s left is = record { response = refl; zones = refl; asked = refl; log = refl; ticks = sym is }
+scoped-unpaid (Some name) parent s left is = record { response = refl; zones = refl; asked = refl; log = refl; ticks = sym is }
+
+pub unanswered-beside : (s t u : State) → SameBeside s t → Unanswered t u → Unanswered s u
+unanswered-beside s t u beside none = record { zones = none.zones ∙ beside.zones; asked = none.asked ∙ beside.asked }
+
+-- ---- scopes and slots that are there
+
+pub has-slot-kept : (name : Option (List ℕ)) (h k : Heap) (scope : ScopeId) → k.scopes ≡ h.scopes → HasSlotFor name h scope → HasSlotFor name k scope
+has-slot-kept None h k scope same has = tt
+has-slot-kept (Some name) h k scope same has = subst (λ scopes. 0 < slot_count scopes scope.0) (sym same) has
+
+pub no-scope : (parent : ScopeId) (name : Option (List ℕ)) (h : Heap) → name ≡ None → parent.0 < length h.scopes → ScopeFor name parent h h parent
+no-scope parent name h is within = subst (λ (n : Option (List ℕ)). ScopeFor n parent h h parent) (sym is) (own-scope h parent within)
+
+pub scope-answer : (n : List ℕ) (name : Option (List ℕ)) (parent : ScopeId) (h k : Heap) (r : Result ScopeId Refused) → name ≡ Some n → IfOk r (λ scope. scope.0 ≡ length h.scopes) → OnOk r (MakesScope parent h k) → Grown h k → IfOk r (λ scope. ScopeFor name parent h k scope)
+scope-answer n name parent h k (Ok scope) is last makes grown =
+    subst (λ (m : Option (List ℕ)). ScopeFor m parent h k scope) (sym is) (named-scope n parent h k scope last makes (λ slots at from. SlotsFrom-widened h k grown.widens slots at from))
+scope-answer n name parent h k (Err e) is last makes grown = tt
+
+-- the scopes that a closure counts on
+pub closure-counted : (functions : List FunctionCode) (f : FunctionCode) (op : Op) (h : Heap) (st : Stacks) (counts : ℕ → ℕ → Option (List ℕ)) (unit number params : ℕ) (name : Option (List ℕ)) (own : ScopeId) (below : List ScopeId)
+    → Ready functions f op h st → CountsAre counts unit functions → op.kind ≡ kind.Closure number params name → st.scopes ≡ own ∷ below → CountedIn counts unit number name h.scopes own
+unfolding Names
+closure-counted functions f op h st counts unit number params name own below ready are is scopes =
+    let has : HasFunction functions number (closure_slots f.slots op.depth.scopes name) = subst (Names functions f.slots op.depth.scopes) is ready.names in
+    record {
+      slots = f.slots;
+      count = op.depth.scopes;
+      counted = are.each number has.code has.found ∙ ap behind_own has.slots_same;
+      there = innermost-from h.scopes f.slots own below st.scopes op.depth.scopes scopes ready.sits.scopes ready.sits.entered;
+    }
+
+pub closure-moves : (number params : ℕ) (name : Option (List ℕ)) → Moves (kind.Closure number params name) 0 1
+unfolding operands_taken operands_given scopes_taken scopes_given lists_taken lists_given endings_taken endings_given
+closure-moves number params name = record { operands_taken = refl; operands_given = refl; scopes_taken = refl; scopes_given = refl; lists_taken = refl; lists_given = refl; endings_taken = refl; endings_given = refl }
+
+pub arguments-moves : Moves kind.Arguments 0 1
+unfolding operands_taken operands_given scopes_taken scopes_given lists_taken lists_given endings_taken endings_given
+arguments-moves = record { operands_taken = refl; operands_given = refl; scopes_taken = refl; scopes_given = refl; lists_taken = refl; lists_given = refl; endings_taken = refl; endings_given = refl }
+
+-- what stands once the value was put on top
+pub given-leaves : (f : FunctionCode) (op : Op) (h k : Heap) (st after : Stacks) (given : Result Value Stop) (r : Result (Unit {0}) Stop)
+    → Moves op.kind 0 1 → Widens h k → Sits h f.slots op.depth st → FitsAnswer (FitsValue (sizes k)) (sizes k) given → Pushes given st after r → Leaves f op k after r
+given-leaves f op h k st after given r moves widens sits fits pushes =
+    push-leaves f op k 0 st after given r moves (Sits-widened h k widens f.slots (depth_left op.kind op.depth) st (sits-taken h f.slots op.kind 0 1 moves op.depth st [] refl sits)) fits pushes

@@ -6,29 +6,18 @@ use Rattle.njs_shared.specs.declared.object.Inner.{Inner}
 use Rattle.njs_shared.specs.declared.object.Inner.TheVariants as inner
 use Rattle.njs_shared.specs.declared.object.Scope.{Scope}
 use Rattle.njs_shared.specs.Heap.{Heap, HeapObject}
-use Rattle.njs_convert.specs.Tells.{IsOrdinary}
 use Rattle.njs_interp.specs.Sits.{SlotsFrom}
-use Rattle.njs_interp.specs.Grown.{Widens, Grown, FitsFurther, FunctionsFit}
+use Rattle.njs_interp.specs.Grown.{Widens, FitsFurther, FunctionsFit}
 use Rattle.njs_interp.specs.Making.{IsMade, MakesFunction}
 use Rattle.njs_interp.proofs.Kept.{SlotsFrom-widened}
 
 module _ (counts : ℕ → ℕ → Option (List ℕ)) where
-  ordinary-further : (scopes : List Scope) (i : Inner) → IsOrdinary i → FitsFurther counts scopes i
-  ordinary-further scopes inner.Plain is = tt
-  ordinary-further scopes (inner.Script unit number scope) is = absurd is
-  ordinary-further scopes (inner.BuiltIn row) is = absurd is
-  ordinary-further scopes (inner.Bound target this args) is = tt
-  ordinary-further scopes (inner.ZoneNumber zone) is = absurd is
-
   further-widened : (h k : Heap) → Widens h k → (i : Inner) → FitsFurther counts h.scopes i → FitsFurther counts k.scopes i
   further-widened h k widens inner.Plain fits = tt
   further-widened h k widens (inner.Script unit number scope) fits = (fits.0, fits.1, SlotsFrom-widened h k widens fits.0 scope.0 fits.2)
   further-widened h k widens (inner.BuiltIn row) fits = absurd fits
   further-widened h k widens (inner.Bound target this args) fits = tt
   further-widened h k widens (inner.ZoneNumber zone) fits = absurd fits
-
-  pub functions-grown : (h k : Heap) → Grown h k → FunctionsFit counts h k
-  functions-grown h k grown = record { fresh = λ at o there far. ordinary-further k.scopes o.inner (grown.fresh at o there far) }
 
   -- one after the other
   pub functions-trans : (h k l : Heap) → FunctionsFit counts h k → Widens k l → FunctionsFit counts k l → FunctionsFit counts h l

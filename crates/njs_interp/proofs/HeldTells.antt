@@ -3,7 +3,7 @@ use Rattle.std.proofs.Common.{◌≡◌, ℕ, ◌-◌, ◌<◌, ◌≤◌, List,
 use Rattle.std.proofs.lemmas.Bool.{le-ltb, lt-ltb}
 use Rattle.std.specs.Prelude.{nat_lt}
 use Rattle.njs_value.specs.declared.Value.{Value}
-use Rattle.njs_shared.specs.Heap.{Heap}
+use Rattle.njs_shared.specs.Heap.{Heap, Sizes}
 use Rattle.njs_shared.specs.Fits.{FitsHeap}
 use Rattle.njs_clone.specs.Content.{content}
 use Rattle.njs_code.specs.declared.op.Kind.TheVariants as kind
@@ -16,6 +16,8 @@ use Rattle.njs_meaning.specs.Functions.{arguments_object}
 use Rattle.njs_convert.specs.declared.stop.Stop.{Stop}
 use Rattle.njs_convert.specs.declared.stop.Stop.TheVariants.{Throw, Fuel, NoMemory}
 use Rattle.njs_convert.specs.FirstHeap.{StandsFor}
+use Rattle.njs_convert.specs.Tells.{FitsAnswer, Lent}
+use Rattle.njs_interp.specs.Grown.{FunctionsFit}
 use Rattle.njs_simul.specs.Stacks as plain
 use Rattle.njs_simul.specs.Stacks.{Frame, push}
 use Rattle.njs_simul.specs.Step.{Action, Goes, act, on, finish}
@@ -131,3 +133,17 @@ module _ (count : ℕ) (args : List PlainValue) (s : State) where
       let free : nat_lt s.ticks (one_and count 8) ≡ false = le-ltb s.ticks (one_and count 8) (omega (arith, enough, own, price)) in
       let taken : left ≡ s.ticks - one_and count 8 = omega (arith, is, own, price) in
       subst (λ b. Tells holds stopped texts given (paid b (s.ticks - one_and count 8))) (sym free) (subst (λ t. Tells holds stopped texts given (paid false t)) taken tells)
+
+-- want of ticks throws nothing
+pub fuel-fits : {V : Type 0} (fits : V → Type 0) (n : Sizes) (stop : Stop) → Err stop ≡ Err Fuel → FitsAnswer fits n (Err stop)
+fuel-fits fits n (Throw v) is = cc
+fuel-fits fits n Fuel is = tt
+fuel-fits fits n NoMemory is = tt
+
+-- the ticks are those that were there
+pub same-ticks : (s : State) (left : ℕ) → left ≡ s.ticks → SameBeside (record s { ticks = left }) s
+same-ticks s left is = record { response = refl; zones = refl; asked = refl; log = refl; ticks = sym is }
+
+-- what no call changes counts as before
+pub counts-same : (h k : Heap) (before after : Lent) → after ≡ before → FunctionsFit before.counts h k → FunctionsFit after.counts h k
+counts-same h k before after same fits = subst (λ (l : Lent). FunctionsFit l.counts h k) (sym same) fits

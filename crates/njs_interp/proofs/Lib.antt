@@ -44,5 +44,5 @@ pub mod CallOperands
 pub mod FunctionsFitted
 pub mod ClosureScopes
 pub mod HeldTells
-pub mod Steps
 pub mod Sorted
+pub mod NamesJump

@@ -26,13 +26,9 @@ use Rattle.njs_interp.specs.Tells.{IsFrame, ActsOnHeap, ActsInCall, Leaves}
 use Rattle.njs_interp.specs.Jumps.{ActsNext, JumpsOnHeap, LeavesNext}
 use Rattle.njs_interp.specs.Grown.{Grown, FitsFurther, FunctionsFit}
 use Rattle.njs_interp.specs.Asked.{ActsAsked}
-use Rattle.njs_interp.specs.Stepping.{Steps}
+use Rattle.njs_interp.specs.Stepping.{GoesTo, Steps}
+use Rattle.njs_interp.specs.Dispatch.{Continues, next_after, AsksInCall}
 use Rattle.njs_interp.proofs.AskedHeap.{acts_by, state_by}
-
--- as an answer that says where the code goes on
-abbrev pub next_after : Result (Unit {0}) Stop → Result Next Stop
-next_after (Ok done) = Ok next.On
-next_after (Err stop) = Err stop
 
 -- an operation that goes on to the next one, as one that may lead elsewhere
 pub acts_next : (holds stopped : State → Type 0) (texts : List (List ℕ)) (at : ℕ → List Op) (rest : List Op) (after : plain.Stacks) (r : Result (Unit {0}) Stop) (a : Action)
@@ -169,3 +165,27 @@ module _ (stands holds stopped : State → Type 0) (old new : Heap) (heap_is : (
           next_on_heap s here new.texts (from frame code) rest (plain_stacks new.texts after) (next_after r) a
           (acts_next (OnHeap new s) (Unanswered s) new.texts (from frame code) rest (plain_stacks new.texts after) r a (told.by frame code rest s is (heap_is s here)));
     }
+
+-- an operation that asks a caller in its call, as a step
+pub steps_called : (follows : Calls → Type 0) (agrees : Type 0) (stands holds stopped : State → Type 0) (unit : ℕ) (this : Value) (args : List Value) (k : Kind) (old new : Heap) (before after : Stacks) (r : Result (Unit {0}) Stop)
+    → AsksInCall follows agrees stands holds stopped unit this args k old new before after r → Steps follows agrees stands holds stopped unit this args k old new before after (next_after r)
+steps_called follows agrees stands holds stopped unit this args k old new before after r told = record {
+  by = λ calls frame code rest s follow agree same is here.
+      acts_next holds stopped new.texts (from frame code) rest (plain_stacks new.texts after) r (act frame code k rest (plain_stacks old.texts before) s)
+      (told.by calls frame code rest s follow agree same is here);
+}
+
+-- one that asks a caller alone asks it in any call
+pub asks_in_call : (follows : Calls → Type 0) (agrees : Type 0) (stands holds stopped : State → Type 0) (unit : ℕ) (this : Value) (args : List Value) (k : Kind) (old new : Heap) (before after : Stacks) (r : Result (Unit {0}) Stop)
+    → ActsAsked follows agrees stands holds stopped k old new before after r → AsksInCall follows agrees stands holds stopped unit this args k old new before after r
+asks_in_call follows agrees stands holds stopped unit this args k old new before after r told = record {
+  by = λ calls frame code rest s follow agree same is here. told.by calls frame code rest s follow agree same here;
+}
+
+-- what an operation does on the heap, it does in any call
+pub in_any_call : (unit : ℕ) (this : Value) (args : List Value) (k : Kind) (old new : Heap) (before after : Stacks) (r : Result (Unit {0}) Stop) → ActsOnHeap k old new before after r → ActsInCall unit this args k old new before after r
+in_any_call unit this args k old new before after r told = record { by = λ frame code rest s is stands. told.by frame code rest s stands }
+
+pub goes_next : (k : Kind) (r : Result (Unit {0}) Stop) → Continues k r → GoesTo k (next_after r)
+goes_next k (Ok done) on = on
+goes_next k (Err stop) on = tt

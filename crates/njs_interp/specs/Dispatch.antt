@@ -89,3 +89,18 @@ family_of kind.EndSwitch = family.End
 family_of kind.EndBlock = family.End
 family_of kind.Finally = family.End
 family_of kind.Resume = family.Leading
+
+-- the operations of these families work on the heap alone
+abbrev pub OnHeapAlone : Family → Type 0
+OnHeapAlone family.Constant = Unit {0}
+OnHeapAlone family.Operand = Unit {0}
+OnHeapAlone family.Slot = Unit {0}
+OnHeapAlone family.Member = Unit {0}
+OnHeapAlone family.Made = Unit {0}
+OnHeapAlone family.Listed = Unit {0}
+OnHeapAlone family.End = Unit {0}
+OnHeapAlone family.Failing = Unit {0}
+OnHeapAlone family.Jump = ⊥
+OnHeapAlone family.Leading = ⊥
+OnHeapAlone family.Asked = ⊥
+OnHeapAlone family.Called = ⊥
