@@ -71,7 +71,7 @@ has-taken f op h before after taken count takes is whole sits =
     }
 
 -- the arguments lie above the other operands
-pub above-others : (args others below operands : List Value) → operands ≡ reverse args ++ others ++ below → operands ≡ (reverse args ++ others) ++ below
+pub above-others : (args others below operands : List Value) → operands ≡ reverse args ++ (others ++ below) → operands ≡ (reverse args ++ others) ++ below
 above-others args others below operands is = is ∙ sym (append_assoc (reverse args) others below)
 
 pub taken-count : (args others : List Value) (count more : ℕ) → length args ≡ count → length others ≡ more → length (reverse args ++ others) ≡ count + more

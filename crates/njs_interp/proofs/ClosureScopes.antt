@@ -75,7 +75,7 @@ module _ (name : List ℕ) (parent : ScopeId) (h k : Heap) (scope : ScopeId) (la
   there : slice_get k.scopes scope.0 ≡ Some one_slot
   there = ap (slice_get k.scopes) last ∙ makes.there
 
-  has-slot : HasSlots 1 k.scopes scope.0
+  abbrev has-slot : HasSlots 1 k.scopes scope.0
   has-slot = record { scope = one_slot; there = there; slots = omega arith }
 
   pub named-scope : ScopeFor (Some name) parent h k scope
@@ -104,7 +104,7 @@ name-stays : (unit number params : ℕ) (made scope : ScopeId) (name : Option (L
 name-stays unit number params made scope None s has = tt
 name-stays unit number params made scope (Some name) s has = has
 
-beside-trans : (s t u : State) → SameBeside s t → SameBeside t u → SameBeside s u
+pub beside-trans : (s t u : State) → SameBeside s t → SameBeside t u → SameBeside s u
 beside-trans s t u a b = record {
   response = b.response ∙ a.response;
   zones = b.zones ∙ a.zones;
@@ -125,8 +125,8 @@ module _ (unit number params : ℕ) (scope : ScopeId) (name : Option (List ℕ))
   unmade m = record { by = λ s stands has. named-unanswered s }
 
   -- where no function was made, there was no memory
-  pub not-made : (stop : Stop) (m : Heap) → Err stop ≡ Err NoMemory → MakesNamed unit number params scope name h m (Err stop)
-  not-made stop m is = subst (λ r. MakesNamed unit number params scope name h m r) (sym is) (unmade m)
+  pub not-made : (stop : Stop) (r : Result Value Stop) (m : Heap) → r ≡ Err stop → r ≡ Err NoMemory → MakesNamed unit number params scope name h m (Err stop)
+  not-made stop r m is none = subst (λ r. MakesNamed unit number params scope name h m r) (sym none ∙ is) (unmade m)
 
   -- the name is given to the function that was made
   pub made-named : (v : Value) → MeansOnHeap h k (Ok v) (made_function unit number params scope) → NamesIn name scope v k l → content l.texts v ≡ content k.texts v → MakesNamed unit number params scope name h l (Ok v)

@@ -135,10 +135,10 @@ module _ (count : ℕ) (args : List PlainValue) (s : State) where
       subst (λ b. Tells holds stopped texts given (paid b (s.ticks - one_and count 8))) (sym free) (subst (λ t. Tells holds stopped texts given (paid false t)) taken tells)
 
 -- want of ticks throws nothing
-pub fuel-fits : {V : Type 0} (fits : V → Type 0) (n : Sizes) (stop : Stop) → Err stop ≡ Err Fuel → FitsAnswer fits n (Err stop)
-fuel-fits fits n (Throw v) is = cc
-fuel-fits fits n Fuel is = tt
-fuel-fits fits n NoMemory is = tt
+pub fuel-fits : {V : Type 0} (fits : V → Type 0) (n : Sizes) (stop : Stop) (r : Result (Unit {0}) Stop) → r ≡ Err stop → r ≡ Err Fuel → FitsAnswer fits n (Err stop)
+fuel-fits fits n (Throw v) r is short = let same : Throw v ≡ Fuel = err_same (Throw v) Fuel r r is short refl in cc
+fuel-fits fits n Fuel r is short = tt
+fuel-fits fits n NoMemory r is short = tt
 
 -- the ticks are those that were there
 pub same-ticks : (s : State) (left : ℕ) → left ≡ s.ticks → SameBeside (record s { ticks = left }) s

@@ -1,4 +1,7 @@
-use Rattle.std.proofs.Common.{◌≡◌, Ok, Err, refl, sym, ap, ◌∙◌, subst, length, map}
+use Rattle.std.proofs.Common.{◌≡◌, ◌+◌, ◌/◌, Ok, Err, refl, sym, ap, ◌∙◌, subst, length, map}
+use Rattle.njs_value.specs.declared.Value.{Value}
+use Rattle.njs_shared.specs.Heap.{sizes}
+use Rattle.njs_shared.specs.Fits.{FitsValue}
 use Rattle.njs_clone.specs.Content.{content}
 use Rattle.njs_interp.specs.Acts.{OnHeap, Unanswered}
 use Rattle.njs_interp.specs.Counting.{made_arguments}
@@ -20,12 +23,14 @@ returns-in-Ok-clause-told g c = λ known. record {
       let args = c.args.args.now in
       let t = record s { ticks = left } in
       let here = c.charge.ensures.stands known h s stands in
-      let heap = g.met.C.Runner.heap_is first known h s (g.met.C.Runner.holds_of first known h s stands) in
+      let heap = g.C.Runner.heap_is first known h s (g.met.C.Runner.holds_of first known h s stands) in
       let given = c.arguments-object.result in
-      arguments-made (length args) (map (content h.texts) args) s (λ t. g.C.Runner.holds caller known l t × stopped t) stopped l.texts (g.C.Caller.ticks_of first) left _ given (g.met.C.Caller.ticks_are first known h s stands) cc
+      let len : c.len.result ≡ length args = cc in
+      let price = ap (λ n. 1 + n / 8) len in
+      arguments-made (length args) (map (content h.texts) args) s (λ t. g.C.Runner.holds caller known l t × stopped t) stopped l.texts (g.C.Caller.ticks_of first) left _ given (g.met.C.Caller.ticks_are first known h s stands) price
       c.in-Ok.ensures.ok.0 c.in-Ok.ensures.ok.1
       (tells-on (OnHeap l t) (λ t. g.C.Runner.holds caller known l t × stopped t) (Unanswered t) stopped l.texts given (made_arguments (map (content h.texts) args) t)
-      (λ v on. held (g.C.Caller.stands caller known) (g.C.Runner.holds caller known) stopped (g.met.C.Runner.holds_by caller known) (g.met.C.Caller.stops caller known) (g.met.C.Caller.stopped_as caller known) h l t v here on.stands c.sizes-_made.ensures.fits on.beside)
+      (λ v on. held (g.C.Caller.stands caller known) (g.C.Runner.holds caller known) stopped (g.met.C.Runner.holds_by caller known) (g.met.C.Caller.stops caller known) (g.met.C.Caller.stopped_as caller known) h l t v here on.stands c.sizes-made.ensures.fits on.beside)
       (λ v none. stopped-still (g.C.Caller.stands caller known) (g.C.Runner.holds caller known) stopped (g.met.C.Runner.holds_by caller known) (g.met.C.Caller.stops caller known) (g.met.C.Caller.stopped_as caller known) h t v here none)
       (c.arguments-object.ensures.told.by t heap));
 }
@@ -45,15 +50,17 @@ returns-in-Err-clause-told g c = λ known. record {
       let stopped = g.C.Caller.stopped caller known in
       let left = g.C.Caller.ticks_of caller in
       let own = g.met.C.Caller.ticks_are first known h s stands in
+      let len : c.len.result ≡ length c.args.args.now = cc in
+      let price = ap (λ n. 1 + n / 8) len in
       let here = c.charge.ensures.stands known h s stands in
-      let heap = g.met.C.Runner.heap_is first known h s (g.met.C.Runner.holds_of first known h s stands) in
-      arguments-spent (length c.args.args.now) (map (content h.texts) c.args.args.now) s (λ t. g.C.Runner.holds caller known h t × stopped t) stopped h.texts (g.C.Caller.ticks_of first) left _ c.in-Err.stop (Err c.in-Err.stop) own cc refl c.in-Err.ensures.err
+      let heap = g.C.Runner.heap_is first known h s (g.met.C.Runner.holds_of first known h s stands) in
+      arguments-spent (length c.args.args.now) (map (content h.texts) c.args.args.now) s (λ t. g.C.Runner.holds caller known h t × stopped t) stopped h.texts (g.C.Caller.ticks_of first) left _ c.in-Err.stop (Err c.in-Err.stop) own price refl c.in-Err.ensures.err
       (held (g.C.Caller.stands caller known) (g.C.Runner.holds caller known) stopped (g.met.C.Runner.holds_by caller known) (g.met.C.Caller.stops caller known) (g.met.C.Caller.stopped_as caller known) h h (record s { ticks = left }) s here heap
-      c.sizes-_sizes.ensures.fits (same-ticks s left (c.in-Err.ensures.err.2 ∙ sym own)));
+      c.sizes-sizes.ensures.fits (same-ticks s left (c.in-Err.ensures.err.2 ∙ sym own)));
 }
 
 pub returns-in-Err-clause-value : goal.returns-in-Err-clause-value
-returns-in-Err-clause-value g c = fuel-fits _ _ c.in-Err.stop c.in-Err.ensures.err.0
+returns-in-Err-clause-value g c = fuel-fits {V = Value} (FitsValue (sizes c.args.machine.now)) (sizes c.args.machine.now) c.in-Err.stop (Err c.in-Err.stop) refl c.in-Err.ensures.err.0
 
 pub returns-in-Err-clause-extends : goal.returns-in-Err-clause-extends
 returns-in-Err-clause-extends g c = extends-nothing c.args.machine.now

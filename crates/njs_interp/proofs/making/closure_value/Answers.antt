@@ -1,4 +1,7 @@
 use Rattle.std.proofs.Common.{◌≡◌, ℕ, List, Option, Some, Ok, Err, refl, sym, ap, ◌∙◌, subst, arith}
+use Rattle.njs_value.specs.declared.Value.{Value}
+use Rattle.njs_shared.specs.Heap.{sizes}
+use Rattle.njs_shared.specs.Fits.{FitsValue}
 use Rattle.njs_code.specs.Valid.{closure_slots}
 use Rattle.njs_meaning.specs.State.{State}
 use Rattle.njs_interp.specs.Acts.{OnHeap, Unanswered}
@@ -48,14 +51,14 @@ returns-in-Ok-charge-clause-told g c = λ known. record {
       let t = record s { ticks = left } in
       let u = record (scoped name m.scope s) { ticks = left } in
       let here = c.charge.ensures.stands known h s stands in
-      let heap = g.met.C.Runner.heap_is first known h s (g.met.C.Runner.holds_of first known h s stands) in
+      let heap = g.C.Runner.heap_is first known h s (g.met.C.Runner.holds_of first known h s stands) in
       let place = c.in-Ok.ensures.scope in
       let given = c.function_in-made.result in
       let kept = scoped-paid name m.scope s left in
       closure-made m.unit m.number m.params m.scope name s (λ t. g.C.Runner.holds caller known l t × stopped t) stopped l.texts (g.C.Caller.ticks_of first) left scope given (g.met.C.Caller.ticks_are first known h s stands)
       c.in-Ok-charge.ensures.ok.0 c.in-Ok-charge.ensures.ok.1 (place.is s heap)
       (tells-on (OnHeap l u) (λ t. g.C.Runner.holds caller known l t × stopped t) (Unanswered u) stopped l.texts given (made_named m.unit m.number m.params scope name u)
-      (λ v on. held (g.C.Caller.stands caller known) (g.C.Runner.holds caller known) stopped (g.met.C.Runner.holds_by caller known) (g.met.C.Caller.stops caller known) (g.met.C.Caller.stopped_as caller known) h l t v here on.stands c.sizes-_made.ensures.fits (beside-trans t u v kept on.beside))
+      (λ v on. held (g.C.Caller.stands caller known) (g.C.Runner.holds caller known) stopped (g.met.C.Runner.holds_by caller known) (g.met.C.Caller.stops caller known) (g.met.C.Caller.stopped_as caller known) h l t v here on.stands c.sizes-made.ensures.fits (beside-trans t u v kept on.beside))
       (λ v none. stopped-still (g.C.Caller.stands caller known) (g.C.Runner.holds caller known) stopped (g.met.C.Runner.holds_by caller known) (g.met.C.Caller.stops caller known) (g.met.C.Caller.stopped_as caller known) h t v here (unanswered-beside t u v kept none))
       (c.function_in-made.ensures.told.by u (place.by s heap).stands (has-name-paid name scope (scoped name m.scope s) left (place.named s heap))));
 }
@@ -91,14 +94,14 @@ returns-in-Err-charge-clause-told g c = λ known. record {
       let left = g.C.Caller.ticks_of caller in
       let own = g.met.C.Caller.ticks_are first known h s stands in
       let here = c.charge.ensures.stands known h s stands in
-      let heap = g.met.C.Runner.heap_is first known h s (g.met.C.Runner.holds_of first known h s stands) in
+      let heap = g.C.Runner.heap_is first known h s (g.met.C.Runner.holds_of first known h s stands) in
       closure-spent m.unit m.number m.params m.scope name s (λ t. g.C.Runner.holds caller known k t × stopped t) stopped k.texts (g.C.Caller.ticks_of first) left c.in-Err-charge.stop (Err c.in-Err-charge.stop) own refl c.in-Err-charge.ensures.err
       (held (g.C.Caller.stands caller known) (g.C.Runner.holds caller known) stopped (g.met.C.Runner.holds_by caller known) (g.met.C.Caller.stops caller known) (g.met.C.Caller.stopped_as caller known) h k (record s { ticks = left }) (scoped name m.scope s) here
-      (c.in-Ok.ensures.scope.by s heap).stands c.sizes-_scoped.ensures.fits (scoped-unpaid name m.scope s left (c.in-Err-charge.ensures.err.2 ∙ sym own)));
+      (c.in-Ok.ensures.scope.by s heap).stands c.sizes-scoped.ensures.fits (scoped-unpaid name m.scope s left (c.in-Err-charge.ensures.err.2 ∙ sym own)));
 }
 
 pub returns-in-Err-charge-clause-value : goal.returns-in-Err-charge-clause-value
-returns-in-Err-charge-clause-value g c = fuel-fits _ _ c.in-Err-charge.stop c.in-Err-charge.ensures.err.0
+returns-in-Err-charge-clause-value g c = fuel-fits {V = Value} (FitsValue (sizes c.scope_for.new.machine)) (sizes c.scope_for.new.machine) c.in-Err-charge.stop (Err c.in-Err-charge.stop) refl c.in-Err-charge.ensures.err.0
 
 pub returns-in-Err-charge-clause-fits : goal.returns-in-Err-charge-clause-fits
 returns-in-Err-charge-clause-fits g c =

@@ -1,4 +1,4 @@
-use Rattle.std.proofs.Common.{Ok, Err, sym, subst, ◌<◌, length}
+use Rattle.std.proofs.Common.{Ok, Err, refl, sym, subst, ◌<◌, length}
 use Rattle.njs_shared.specs.declared.object.Scope.{Scope}
 use Rattle.std.proofs.Common.{List}
 use Rattle.njs_interp.proofs.Kept.{Widens-trans, content-widened, FitsValue-widened}
@@ -12,7 +12,7 @@ returns-in-Err-clause-told g c =
     let m = c.args.making in
     let h = c.args.machine.now in
     let k = c.made.new.machine in
-    not-made m.unit m.number m.params m.scope c.args.name.now h k k c.in-Err.stop k c.in-Err.ensures.memory
+    not-made m.unit m.number m.params m.scope c.args.name.now h k k c.in-Err.stop (Err c.in-Err.stop) k refl c.in-Err.ensures.memory
 
 pub returns-in-Err-clause-functions : goal.returns-in-Err-clause-functions
 returns-in-Err-clause-functions g c = λ counts slots counted from.
