@@ -1,5 +1,6 @@
 -- What an operation does on the heap, or in a call, as a step under a runner.
-use Rattle.std.proofs.Common.{◌≡◌, ℕ, ◌≤◌, List, length, Option, Some, Result, Ok, Err, refl, subst, slice_get}
+use Rattle.std.proofs.Common.{◌≡◌, ℕ, ◌≤◌, List, length, Option, Some, Result, Ok, Err, refl, ap, subst, slice_get}
+use Rattle.std.specs.Prelude.{OnOk, OnErr}
 use Rattle.njs_value.specs.declared.Value.{Value}
 use Rattle.njs_shared.specs.Heap.{Heap, HeapObject}
 use Rattle.njs_shared.specs.declared.object.Inner.{Inner}
@@ -189,3 +190,12 @@ in_any_call unit this args k old new before after r told = record { by = λ fram
 pub goes_next : (k : Kind) (r : Result (Unit {0}) Stop) → Continues k r → GoesTo k (next_after r)
 goes_next k (Ok done) on = on
 goes_next k (Err stop) on = tt
+
+-- what is said of the answer of an operation is said of where the code goes on
+pub ok_next : (P : Type 0) (r : Result (Unit {0}) Stop) → OnOk r P → OnOk (next_after r) P
+ok_next P (Ok done) here = here
+ok_next P (Err stop) here = here
+
+pub err_next : (r : Result (Unit {0}) Stop) → OnErr r (r ≡ Err Fuel) → OnErr (next_after r) (next_after r ≡ Err Fuel)
+err_next (Ok done) here = here
+err_next (Err stop) here = ap next_after here
