@@ -1,5 +1,5 @@
 -- What an operation does on the heap, or in a call, as a step under a runner.
-use Rattle.std.proofs.Common.{◌≡◌, ℕ, ◌≤◌, List, length, Option, Some, Result, Ok, Err, refl, ap, subst, slice_get}
+use Rattle.std.proofs.Common.{◌≡◌, ℕ, ◌≤◌, List, length, Option, Some, Result, Ok, Err, refl, sym, ap, subst, slice_get}
 use Rattle.std.specs.Prelude.{OnOk, OnErr}
 use Rattle.njs_value.specs.declared.Value.{Value}
 use Rattle.njs_shared.specs.Heap.{Heap, HeapObject}
@@ -186,6 +186,10 @@ asks_in_call follows agrees stands holds stopped unit this args k old new before
 -- what an operation does on the heap, it does in any call
 pub in_any_call : (unit : ℕ) (this : Value) (args : List Value) (k : Kind) (old new : Heap) (before after : Stacks) (r : Result (Unit {0}) Stop) → ActsOnHeap k old new before after r → ActsInCall unit this args k old new before after r
 in_any_call unit this args k old new before after r told = record { by = λ frame code rest s is stands. told.by frame code rest s stands }
+
+-- of an operation that is another by a fact
+pub in_call_at : (unit : ℕ) (this : Value) (args : List Value) (k other : Kind) (old new : Heap) (before after : Stacks) (r : Result (Unit {0}) Stop) → ActsOnHeap other old new before after r → k ≡ other → ActsInCall unit this args k old new before after r
+in_call_at unit this args k other old new before after r told is = subst (λ k. ActsInCall unit this args k old new before after r) (sym is) (in_any_call unit this args other old new before after r told)
 
 pub goes_next : (k : Kind) (r : Result (Unit {0}) Stop) → Continues k r → GoesTo k (next_after r)
 goes_next k (Ok done) on = on

@@ -1,4 +1,4 @@
-use Rattle.std.proofs.Common.{◌≡◌, ◌+◌, ◌/◌, Ok, Err, refl, sym, ap, ◌∙◌, subst, length, map}
+use Rattle.std.proofs.Common.{◌≡◌, Ok, Err, refl, sym, ap, ◌∙◌, subst, length, map}
 use Rattle.njs_value.specs.declared.Value.{Value}
 use Rattle.njs_shared.specs.Heap.{sizes}
 use Rattle.njs_shared.specs.Fits.{FitsValue}
@@ -25,9 +25,7 @@ returns-in-Ok-clause-told g c = λ known. record {
       let here = c.charge.ensures.stands known h s stands in
       let heap = g.C.Runner.heap_is first known h s (g.met.C.Runner.holds_of first known h s stands) in
       let given = c.arguments-object.result in
-      let len : c.len.result ≡ length args = cc in
-      let price = ap (λ n. 1 + n / 8) len in
-      arguments-made (length args) (map (content h.texts) args) s (λ t. g.C.Runner.holds caller known l t × stopped t) stopped l.texts (g.C.Caller.ticks_of first) left _ given (g.met.C.Caller.ticks_are first known h s stands) price
+      arguments-made (length args) (map (content h.texts) args) s (λ t. g.C.Runner.holds caller known l t × stopped t) stopped l.texts (g.C.Caller.ticks_of first) left _ given (g.met.C.Caller.ticks_are first known h s stands) refl
       c.in-Ok.ensures.ok.0 c.in-Ok.ensures.ok.1
       (tells-on (OnHeap l t) (λ t. g.C.Runner.holds caller known l t × stopped t) (Unanswered t) stopped l.texts given (made_arguments (map (content h.texts) args) t)
       (λ v on. held (g.C.Caller.stands caller known) (g.C.Runner.holds caller known) stopped (g.met.C.Runner.holds_by caller known) (g.met.C.Caller.stops caller known) (g.met.C.Caller.stopped_as caller known) h l t v here on.stands c.sizes-made.ensures.fits on.beside)
@@ -50,11 +48,9 @@ returns-in-Err-clause-told g c = λ known. record {
       let stopped = g.C.Caller.stopped caller known in
       let left = g.C.Caller.ticks_of caller in
       let own = g.met.C.Caller.ticks_are first known h s stands in
-      let len : c.len.result ≡ length c.args.args.now = cc in
-      let price = ap (λ n. 1 + n / 8) len in
       let here = c.charge.ensures.stands known h s stands in
       let heap = g.C.Runner.heap_is first known h s (g.met.C.Runner.holds_of first known h s stands) in
-      arguments-spent (length c.args.args.now) (map (content h.texts) c.args.args.now) s (λ t. g.C.Runner.holds caller known h t × stopped t) stopped h.texts (g.C.Caller.ticks_of first) left _ c.in-Err.stop (Err c.in-Err.stop) own price refl c.in-Err.ensures.err
+      arguments-spent (length c.args.args.now) (map (content h.texts) c.args.args.now) s (λ t. g.C.Runner.holds caller known h t × stopped t) stopped h.texts (g.C.Caller.ticks_of first) left _ c.in-Err.stop (Err c.in-Err.stop) own refl refl c.in-Err.ensures.err
       (held (g.C.Caller.stands caller known) (g.C.Runner.holds caller known) stopped (g.met.C.Runner.holds_by caller known) (g.met.C.Caller.stops caller known) (g.met.C.Caller.stopped_as caller known) h h (record s { ticks = left }) s here heap
       c.sizes-sizes.ensures.fits (same-ticks s left (c.in-Err.ensures.err.2 ∙ sym own)));
 }

@@ -1,4 +1,4 @@
-use Rattle.std.proofs.Common.{◌≡◌, sym, subst, ◌∙◌}
+use Rattle.std.proofs.Common.{◌≡◌, ◌<◌, sym, subst, ◌∙◌}
 use Rattle.std.specs.Prelude.{OnOk, OnErr, Err}
 use Rattle.njs_convert.specs.declared.stop.Stop.TheVariants.{Fuel}
 use Rattle.njs_interp.specs.declared.families.Family.TheVariants as family
@@ -40,7 +40,9 @@ returns-clause-leaves g c =
     subst (LeavesNext f op new after) (sym c.next_after.ensures) (leaves_next f op new after c.ask-done.result c.ask-done.ensures.leaves)
 
 pub returns-clause-falls : goal.returns-clause-falls
-returns-clause-falls g c = λ is. subst (λ r. OnOk r _) (sym c.next_after.ensures) (ok_next _ c.ask-done.result (c.ask-done.ensures.falls is))
+returns-clause-falls g c = λ is.
+    let fell = g.C.Caller.ticks_of c.ask-done.new.caller < g.C.Caller.ticks_of c.args.caller.now in
+    subst (λ r. OnOk r fell) (sym c.next_after.ensures) (ok_next fell c.ask-done.result (c.ask-done.ensures.falls is))
 
 pub returns-clause-spends : goal.returns-clause-spends
 returns-clause-spends g c = λ is. subst (λ r. OnErr r (r ≡ Err Fuel)) (sym c.next_after.ensures) (err_next c.ask-done.result (c.ask-done.ensures.spends is))

@@ -1,6 +1,6 @@
-use Rattle.std.proofs.Common.{sym, subst}
+use Rattle.std.proofs.Common.{sym, subst, rules}
 use Rattle.njs_interp.specs.Tells.{ActsInCall}
-use Rattle.njs_interp.proofs.Lifting.{in_any_call}
+use Rattle.njs_interp.proofs.Lifting.{in_any_call, in_call_at}
 use Rattle.njs_interp.proofs.Kept.{Grown-refl}
 use Rattle.njs_interp.proofs.Sorted.{constants_are}
 use Rattle.njs_interp.proofs.step.heap.constant.Goals as goal
@@ -50,10 +50,8 @@ returns-in-Bool-clause-told c =
 pub returns-in-Num-clause-told : goal.returns-in-Num-clause-told
 returns-in-Num-clause-told c =
     let call = c.args.call.now in
-    let old = c.args.machine.now in
-    let before = c.args.stacks.now in
-    let after = c.number.new.stacks in
-    subst (λ k. ActsInCall call.unit call.this call.args.now k old c.args.machine.now before after c.number.result) (sym c.in-Num.is) (in_any_call call.unit call.this call.args.now _ old c.args.machine.now before after c.number.result c.number.ensures.told)
+    let h = c.args.machine.now in
+    in_call_at call.unit call.this call.args.now c.args.at.now.op.now.kind _ h h c.args.stacks.now c.number.new.stacks c.number.result c.number.ensures.told (search rules)
 
 pub returns-in-Str-clause-told : goal.returns-in-Str-clause-told
 returns-in-Str-clause-told c =
