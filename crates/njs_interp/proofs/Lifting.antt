@@ -5,24 +5,24 @@ use Rattle.njs_shared.specs.Heap.{Heap}
 use Rattle.njs_code.specs.declared.op.Kind.{Kind}
 use Rattle.njs_code.specs.declared.op.Op.{Op}
 use Rattle.njs_code.specs.declared.code.FunctionCode.{FunctionCode}
-use Rattle.njs_meaning.specs.State.{State, Outcome, Gives, Throws, Spent, Asks}
+use Rattle.njs_meaning.specs.State.{State, Gives, Throws, Spent, Asks}
 use Rattle.njs_meaning.specs.Running.{Calls}
 use Rattle.njs_convert.specs.declared.stop.Stop.{Stop}
 use Rattle.njs_convert.specs.declared.stop.Stop.TheVariants.{Throw, Fuel, NoMemory}
 use Rattle.njs_convert.specs.FirstHeap.{StandsFor}
 use Rattle.njs_simul.specs.Stacks as plain
-use Rattle.njs_simul.specs.Stacks.{Frame, Ended, Thrown}
+use Rattle.njs_simul.specs.Stacks.{Ended, Thrown}
 use Rattle.njs_simul.specs.Step.{Action, Goes, Ends, Leads, Stuck, act, from}
 use Rattle.njs_interp.specs.declared.next.Next.{Next}
 use Rattle.njs_interp.specs.declared.next.Next.TheVariants as next
 use Rattle.njs_interp.specs.declared.stacks.Stacks.{Stacks}
 use Rattle.njs_interp.specs.Plain.{heap_of, plain_stacks}
-use Rattle.njs_interp.specs.Acts.{SameBeside, OnHeap, Unanswered, Acts, state_in}
-use Rattle.njs_interp.specs.Tells.{IsFrame, ActsOnHeap, ActsInCall, Leaves}
+use Rattle.njs_interp.specs.Acts.{SameBeside, OnHeap, Unanswered, Acts}
+use Rattle.njs_interp.specs.Tells.{ActsOnHeap, ActsInCall, Leaves}
 use Rattle.njs_interp.specs.Jumps.{ActsNext, JumpsOnHeap, LeavesNext}
 use Rattle.njs_interp.specs.Asked.{ActsAsked}
 use Rattle.njs_interp.specs.Stepping.{Steps}
-use Rattle.njs_interp.proofs.AskedHeap.{acts_by, state_by}
+use Rattle.njs_interp.proofs.AskedHeap.{state_by}
 
 -- as an answer that says where the code goes on
 abbrev pub next_after : Result (Unit {0}) Stop → Result Next Stop
