@@ -6,12 +6,24 @@ use Rattle.njs_shared.specs.declared.object.Inner.{Inner}
 use Rattle.njs_shared.specs.declared.object.Inner.TheVariants as inner
 use Rattle.njs_shared.specs.declared.object.Scope.{Scope}
 use Rattle.njs_shared.specs.Heap.{Heap, HeapObject}
+use Rattle.njs_convert.specs.Tells.{IsOrdinary}
 use Rattle.njs_interp.specs.Sits.{SlotsFrom}
-use Rattle.njs_interp.specs.Grown.{Widens, FitsFurther, FunctionsFit}
+use Rattle.njs_interp.specs.Grown.{Widens, Grown, FitsFurther, FunctionsFit}
 use Rattle.njs_interp.specs.Making.{IsMade, MakesFunction}
 use Rattle.njs_interp.proofs.Kept.{SlotsFrom-widened}
 
 module _ (counts : ℕ → ℕ → Option (List ℕ)) where
+  ordinary_fits : (scopes : List Scope) (i : Inner) → IsOrdinary i → FitsFurther counts scopes i
+  ordinary_fits scopes inner.Plain is = tt
+  ordinary_fits scopes (inner.Script unit number scope) is = absurd is
+  ordinary_fits scopes (inner.BuiltIn row) is = absurd is
+  ordinary_fits scopes (inner.Bound target this args) is = tt
+  ordinary_fits scopes (inner.ZoneNumber zone) is = absurd is
+
+  -- further objects that are ordinary fit
+  pub functions_fit : (h k : Heap) → Grown h k → FunctionsFit counts h k
+  functions_fit h k grown = record { fresh = λ at o there far. ordinary_fits k.scopes o.inner (grown.fresh at o there far) }
+
   further-widened : (h k : Heap) → Widens h k → (i : Inner) → FitsFurther counts h.scopes i → FitsFurther counts k.scopes i
   further-widened h k widens inner.Plain fits = tt
   further-widened h k widens (inner.Script unit number scope) fits = (fits.0, fits.1, SlotsFrom-widened h k widens fits.0 scope.0 fits.2)

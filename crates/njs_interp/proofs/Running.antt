@@ -1,6 +1,5 @@
 -- The run of a function's code, turn after turn, and that it ends.
-use Rattle.std.proofs.Common.{◌≡◌, ℕ, ◌+◌, ◌-◌, ◌*◌, ◌<◌, ◌≤◌, Bool, true, false, List, [], ◌∷◌, length, map, drop, Option, Some, None, Result, Ok, Err, refl, sym, ap, subst, ◌∙◌, arith, slice_get}
-use Rattle.std.specs.Prelude.{OnOk, if◌then◌else◌, nat_le}
+use Rattle.std.proofs.Common.{◌≡◌, ℕ, ◌+◌, ◌-◌, ◌*◌, ◌<◌, ◌≤◌, Bool, true, false, List, length, drop, Option, Some, None, Ok, Err, refl, sym, ap, subst, ◌∙◌, arith, slice_get}
 use Rattle.std.specs.List.{AllByRecursion}
 use native.Mathlib.Decide.{dec_lt}
 use mathlib.Core.Logic.{dite}
@@ -16,23 +15,20 @@ use Rattle.njs_code.specs.declared.op.Op.{Op}
 use Rattle.njs_code.specs.declared.code.FunctionCode.{FunctionCode}
 use Rattle.njs_code.specs.Facts.{StandsAt, PartRule}
 use Rattle.njs_code.specs.Valid.{is_charge}
-use Rattle.njs_meaning.specs.Values.{PlainValue}
-use Rattle.njs_meaning.specs.State.{State, Outcome}
-use Rattle.njs_meaning.specs.Replies.{state_of}
+use Rattle.njs_meaning.specs.State.{State}
 use Rattle.njs_meaning.specs.Running.{Calls}
 use Rattle.njs_convert.specs.declared.stop.Stop.{Stop}
 use Rattle.njs_convert.specs.declared.stop.Stop.TheVariants.{Throw, Fuel, NoMemory}
-use Rattle.njs_convert.specs.Tells.{Tells, ShowsValue, FitsAnswer}
+use Rattle.njs_convert.specs.Tells.{FitsAnswer}
 use Rattle.njs_simul.specs.Stacks.{Frame}
 use Rattle.njs_simul.specs.Step.{from}
 use Rattle.njs_simul.specs.Runs.{Runs}
 use Rattle.njs_simul.specs.Fits.{Names, Good, CallsFare}
 use Rattle.njs_simul.specs.Program.{starting}
 use Rattle.njs_interp.specs.declared.stacks.Stacks.{Stacks}
-use Rattle.njs_interp.specs.declared.turn.Turned.{Turned}
 use Rattle.njs_interp.specs.declared.turn.Turned.TheVariants as turned
 use Rattle.njs_interp.specs.Plain.{plain_stacks}
-use Rattle.njs_interp.specs.Sits.{Sits, SlotsFrom, Entered, FitsEnding}
+use Rattle.njs_interp.specs.Sits.{Sits, SlotsFrom, Entered}
 use Rattle.njs_interp.specs.Tells.{IsFrame}
 use Rattle.njs_interp.specs.Grown.{Widens}
 use Rattle.njs_interp.specs.Standing.{CallsKeep}

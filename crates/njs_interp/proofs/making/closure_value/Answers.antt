@@ -8,8 +8,7 @@ use Rattle.njs_interp.specs.Acts.{OnHeap, Unanswered}
 use Rattle.njs_interp.specs.Grown.{FunctionsFit}
 use Rattle.njs_interp.specs.Closures.{scoped, made_named, made_closure}
 use Rattle.njs_interp.proofs.Kept.{Widens-trans, Widens-objects}
-use Rattle.njs_interp.proofs.Lifting.{functions_fit}
-use Rattle.njs_interp.proofs.FunctionsFitted.{functions-trans}
+use Rattle.njs_interp.proofs.FunctionsFitted.{functions_fit, functions-trans}
 use Rattle.njs_interp.proofs.ClosureScopes.{beside-trans, closure-unanswered, closure-spent, closure-made, has-name-paid, scoped-paid, scoped-unpaid, unanswered-beside}
 use Rattle.njs_interp.proofs.HeldTells.{tells-on, held, stopped-still, fuel-fits, counts-same}
 use Rattle.njs_interp.proofs.making.closure_value.Goals as goal

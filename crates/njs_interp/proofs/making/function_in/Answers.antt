@@ -2,8 +2,7 @@ use Rattle.std.proofs.Common.{Ok, Err, refl, sym, subst, ◌<◌, length}
 use Rattle.njs_shared.specs.declared.object.Scope.{Scope}
 use Rattle.std.proofs.Common.{List}
 use Rattle.njs_interp.proofs.Kept.{Widens-trans, content-widened, FitsValue-widened}
-use Rattle.njs_interp.proofs.Lifting.{functions_fit}
-use Rattle.njs_interp.proofs.FunctionsFitted.{functions-trans, functions-made}
+use Rattle.njs_interp.proofs.FunctionsFitted.{functions_fit, functions-trans, functions-made}
 use Rattle.njs_interp.proofs.ClosureScopes.{not-made, made-named, unmade, has-slot-kept}
 use Rattle.njs_interp.proofs.making.function_in.Goals as goal
 

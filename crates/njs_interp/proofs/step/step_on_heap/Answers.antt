@@ -2,7 +2,8 @@ use Rattle.std.proofs.Common.{sym, subst}
 use Rattle.njs_interp.specs.Stepping.{GoesTo, Steps}
 use Rattle.njs_interp.specs.Jumps.{LeavesNext}
 use Rattle.njs_interp.specs.Dispatch.{OnHeapAlone}
-use Rattle.njs_interp.proofs.Lifting.{steps_in_call, goes_next, leaves_next, functions_fit}
+use Rattle.njs_interp.proofs.Lifting.{steps_in_call, goes_next, leaves_next}
+use Rattle.njs_interp.proofs.FunctionsFitted.{functions_fit}
 use Rattle.njs_interp.proofs.Sorted.{charge_asks}
 use Rattle.njs_interp.proofs.step.step_on_heap.Goals as goal
 
