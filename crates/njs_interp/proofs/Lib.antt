@@ -33,3 +33,6 @@ pub mod Going
 pub mod Cutting
 pub mod Leading
 pub mod AskedHeap
+pub mod Parameters
+pub mod CallScopes
+pub mod Scripts

@@ -17,3 +17,4 @@ pub mod Leading
 pub mod Hosts
 pub mod Standing
 pub mod Owned
+pub mod Calling

@@ -21,6 +21,7 @@ mod operators;
 mod own;
 mod pile;
 mod runner;
+mod script;
 mod slots;
 mod stacks;
 mod taken;

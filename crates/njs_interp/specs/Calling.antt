@@ -1,0 +1,111 @@
+-- Calls of values, and of functions of scripts: the program that codes are of, and the scopes that calls begin with.
+use Rattle.std.specs.Prelude.{◌≡◌, ℕ, zero, suc, List, [], ◌∷◌, length, map, Bool, true, false, Option, Some, slice_get, Result}
+use Rattle.std.specs.Option.{option_map_or}
+use Rattle.njs_tree.specs.declared.tree.Script.{Script}
+use Rattle.njs_tree.specs.Early.{repeats}
+use Rattle.njs_value.specs.declared.Cause.{Cause}
+use Rattle.njs_value.specs.declared.Cause.TheVariants.{NotFunction, NotConstructor}
+use Rattle.njs_value.specs.declared.Row.{Row}
+use Rattle.njs_value.specs.declared.ScopeId.{ScopeId}
+use Rattle.njs_value.specs.declared.Value.{Value}
+use Rattle.njs_value.specs.declared.Value.TheVariants as value
+use Rattle.njs_shared.specs.declared.object.Scope.{Scope}
+use Rattle.njs_shared.specs.Heap.{Heap}
+use Rattle.njs_clone.specs.Content.{content}
+use Rattle.njs_code.specs.declared.code.Code.{Code}
+use Rattle.njs_code.specs.declared.code.FunctionCode.{FunctionCode}
+use Rattle.njs_meaning.specs.Primitives.{Undefined}
+use Rattle.njs_meaning.specs.Values.{PlainValue, Simple, ObjectAt}
+use Rattle.njs_meaning.specs.PlainHeap.{PlainObject, Variable}
+use Rattle.njs_meaning.specs.Conversions.{is_callable}
+use Rattle.njs_meaning.specs.State.{State, Outcome}
+use Rattle.njs_meaning.specs.Running.{Calls}
+use Rattle.njs_meaning.specs.Replies.{Known}
+use Rattle.njs_meaning.specs.Places.{Bindings}
+use Rattle.njs_meaning.specs.Scopes.{with_scope}
+use Rattle.njs_meaning.specs.Functions.{Function, Program, call_inner, construct_inner, inner_at, is_constructor}
+use Rattle.njs_meaning.specs.Meaning.{functions_of}
+use Rattle.njs_convert.specs.declared.stop.Stop.{Stop}
+use Rattle.njs_convert.specs.Tells.{Tells, ShowsValue}
+use Rattle.njs_simul.specs.Stacks.{Frame}
+use Rattle.njs_simul.specs.Compiled.{code_of}
+use Rattle.njs_simul.specs.Fits.{Good}
+use Rattle.njs_simul.specs.Program.{names_in, starting}
+use Rattle.njs_simul.specs.Runs.{Runs}
+use Rattle.njs_interp.specs.declared.own.Way.{Way}
+use Rattle.njs_interp.specs.declared.own.Way.TheVariants as way
+use Rattle.njs_interp.specs.Sits.{SlotsFrom}
+use Rattle.njs_interp.specs.Hosts.{Answers}
+use Rattle.njs_interp.specs.Tells.{IsFrame}
+
+-- ---- programs
+
+-- no function of a script has two parameters of one name (ECMA-262 5.1 §13.1)
+pub record DistinctParameters (script : Script) : Type 0 where
+  pub each : (number : ℕ) (f : Function) → slice_get (functions_of script) number ≡ Some f → repeats f.params ≡ false
+
+-- a program of scripts: codes are theirs, for the names of the outermost scope, and the names around their functions are known
+pub record CodesOf (codes : List Code) (k : Known) (program : Program) : Type 0 where
+  pub scripts : List Script
+  pub outermost : Bindings
+  pub functions : program.functions ≡ map functions_of scripts
+  pub codes_are : codes ≡ map (λ script. code_of script outermost) scripts
+  pub around : k.around ≡ names_in scripts outermost
+  pub distinct : (unit : ℕ) (script : Script) → slice_get scripts unit ≡ Some script → DistinctParameters script
+
+-- a program whose built-in functions are a host's
+pub record IsProgram (means : Answers) (constructs : Row → Bool) (codes : List Code) (k : Known) (program : Program) : Type 0 where
+  pub of_codes : CodesOf codes k program
+  pub answers : program.answers ≡ means
+  pub constructs_are : program.constructs ≡ constructs
+
+-- ---- scopes of calls
+
+-- the slots of a call's scope: as many as it has names, of which the first, the parameters, have the arguments
+abbrev pub filled : {V : Type 0} → V → ℕ → ℕ → List V → List V
+filled none zero params args = []
+filled none (suc n) zero args = none ∷ filled none n zero args
+filled none (suc n) (suc params) [] = none ∷ filled none n params []
+filled none (suc n) (suc params) (v ∷ args) = v ∷ filled none n params args
+
+abbrev pub scope_filled : ScopeId → ℕ → ℕ → List Value → Scope
+scope_filled parent slots params args = record { parent = Some parent; slots = filled value.Undefined slots params args }
+
+-- the slots of a function's own scope
+abbrev pub own_slots : List ℕ → ℕ
+own_slots [] = 0
+own_slots (own ∷ around) = own
+
+-- a function of a module is there, and a scope with the slots that it counts on around it
+abbrev pub StandsThere : (ℕ → ℕ → Option (List ℕ)) → List Scope → ℕ → ℕ → ScopeId → Type 0
+StandsThere counts scopes unit number scope = (slots : List ℕ) × (counts unit number ≡ Some slots) × SlotsFrom slots scopes scope.0
+
+-- the code of a function ran in a new scope below another: the answer tells the outcome in which a run of it ends, from every
+-- state that the machine stood for, with that scope
+pub record RunsInScope (k : Known) (follows : Calls → Type 0) (agrees : Type 0) (stands holds stopped : State → Type 0) (unit : ℕ) (this : Value) (args : List Value) (f : FunctionCode) (parent : ScopeId) (old new : Heap) (r : Result Value Stop) : Type 0 where
+  pub by : (calls : Calls) (frame : Frame) (outcome : Outcome PlainValue) (variables : List Variable) (s : State) → follows calls → agrees → frame.calls ≡ calls → IsFrame old.texts unit this args frame → stands s
+      → map (λ (v : Variable). v.value) variables ≡ filled (Simple Undefined) (own_slots f.slots) f.params (map (content old.texts) args)
+      → Runs (Good k.around) frame f.ops outcome f.ops (starting (length s.scopes)) (with_scope parent variables s)
+      → Tells holds stopped new.texts (ShowsValue new.texts) r outcome
+
+-- ---- calls of objects
+
+-- whether an object can be called by `new`
+abbrev pub can_construct : Program → List PlainObject → PlainValue → Bool
+can_construct program objects (Simple p) = false
+can_construct program objects (ObjectAt f) = is_constructor program (length objects) objects f
+
+-- whether a value may be called so
+abbrev pub may_enter : Program → Way → List PlainObject → PlainValue → Bool
+may_enter program (way.Call this) objects f = is_callable objects f
+may_enter program way.New objects f = can_construct program objects f
+
+-- what is thrown where it may not
+abbrev pub refusal : Way → Cause
+refusal (way.Call this) = NotFunction
+refusal way.New = NotConstructor
+
+-- a call of an object, or `new`, by what it is beside its properties
+abbrev pub entered : Program → Calls → List (List ℕ) → Way → ℕ → List PlainValue → State → Outcome PlainValue
+entered program calls texts (way.Call this) f args s = call_inner program calls (inner_at s.objects f) (content texts this) args s
+entered program calls texts way.New f args s = construct_inner program calls f (inner_at s.objects f) args s
