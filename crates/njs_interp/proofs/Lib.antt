@@ -36,3 +36,6 @@ pub mod AskedHeap
 pub mod Parameters
 pub mod CallScopes
 pub mod Scripts
+pub mod Turning
+pub mod Running
+pub mod Lifting

@@ -18,3 +18,5 @@ pub mod Hosts
 pub mod Standing
 pub mod Owned
 pub mod Calling
+pub mod Stepping
+pub mod Turning

@@ -20,12 +20,15 @@ mod operands;
 mod operators;
 mod own;
 mod pile;
+mod run;
 mod runner;
 mod script;
 mod slots;
 mod stacks;
+mod step;
 mod taken;
 mod taking;
+mod turn;
 
 pub use at::At;
 pub use host::{Fuel, Host};
