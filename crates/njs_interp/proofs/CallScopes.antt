@@ -1,8 +1,9 @@
 -- The scope that a call begins with: its first slots have the arguments.
-use Rattle.std.proofs.Common.{◌≡◌, ℕ, zero, suc, ◌+◌, ◌<◌, ◌≤◌, List, [], ◌∷◌, ◌++◌, length, map, replicate, Option, Some, slice_get, slice_set, get_or, ap, refl, sym, ◌∙◌, subst, arith, add-one, length-append}
+use Rattle.std.proofs.Common.{◌≡◌, ℕ, zero, suc, ◌+◌, ◌<◌, ◌≤◌, List, [], ◌∷◌, ◌++◌, length, map, replicate, Option, Some, None, slice_get, slice_set, ap, refl, sym, ◌∙◌, subst, arith, inl, inr, add-one, length-append}
 use Rattle.std.specs.Option.{option_map_or}
 use Rattle.std.specs.List.{AllByRecursion}
 use Rattle.std.proofs.lemmas.List.{map-append, length-map}
+use Rattle.std.proofs.lemmas.Option.{slice_get_cases}
 use Rattle.njs_value.specs.declared.ScopeId.{ScopeId}
 use Rattle.njs_value.specs.declared.Value.{Value}
 use Rattle.njs_value.specs.declared.Value.TheVariants.{Undefined}
@@ -26,6 +27,13 @@ use Rattle.njs_interp.proofs.Entering.{push_set, Grown-scope}
 use Rattle.njs_interp.proofs.Kept.{FitsValue-widened, SlotsFrom-widened}
 use Rattle.njs_interp.proofs.Parameters.{filled_content}
 
+-- nothing stands past the end of a list
+pub past-end : {A : Type 0} (xs : List A) (i : ℕ) → slice_get xs i ≡ None → length xs ≤ i
+past-end xs i none = elim ((slice_get_cases xs i).1) [
+  | inl found ↦ (let never : None ≡ Some found.0 = sym none ∙ found.2.0 in cc)
+  | inr past ↦ past.0
+]
+
 -- ---- slots
 
 module _ {V : Type 0} (none : V) where
@@ -40,12 +48,14 @@ module _ {V : Type 0} (none : V) where
   filled_count (suc n) (suc params) (v ∷ args) = ap suc (filled_count n params args)
 
   -- one argument more
-  filled_set : (d : V) (n i : ℕ) (args : List V) → i < n → i < length args → slice_set (filled none n i args) i (get_or args i d) ≡ filled none n (suc i) args
-  filled_set d zero i args within there = absurd (omega (arith, within))
-  filled_set d (suc n) zero [] within there = absurd (omega (arith, there))
-  filled_set d (suc n) zero (v ∷ args) within there = ap (λ vs. v ∷ vs) (filled_none n (v ∷ args) ∙ sym (filled_none n args))
-  filled_set d (suc n) (suc i) [] within there = absurd (omega (arith, there))
-  filled_set d (suc n) (suc i) (v ∷ args) within there = ap (λ vs. v ∷ vs) (filled_set d n i args (omega (arith, within)) (omega (arith, there)))
+  filled_set : (n i : ℕ) (args : List V) (v : V) → i < n → slice_get args i ≡ Some v → slice_set (filled none n i args) i v ≡ filled none n (suc i) args
+  filled_set zero i args v within there = absurd (omega (arith, within))
+  filled_set (suc n) zero [] v within there = cc
+  filled_set (suc n) zero (w ∷ args) v within there =
+      let same : w ≡ v = cc in
+      ap (λ vs. v ∷ vs) (filled_none n (w ∷ args) ∙ sym (filled_none n args)) ∙ ap (λ x. x ∷ filled none n 0 args) (sym same)
+  filled_set (suc n) (suc i) [] v within there = cc
+  filled_set (suc n) (suc i) (w ∷ args) v within there = ap (λ vs. w ∷ vs) (filled_set n i args v (omega (arith, within)) there)
 
   -- no argument is left
   pub filled_all : (n i params : ℕ) (args : List V) → i ≤ params → length args ≤ i → filled none n i args ≡ filled none n params args
@@ -83,17 +93,16 @@ module _ (old mid : Heap) (parent : ScopeId) (n i : ℕ) (args : List Value) (is
   pub filled-value : (v : Value) → FitsValue (sizes old) v → FitsValue (sizes mid) v
   filled-value v fits = FitsValue-widened old mid filled-grown.widens v fits
 
-  pub filled-next : (new : Heap) (at : ℕ) (v : Value) → at ≡ length old.scopes → i < n → i < length args → v ≡ get_or args i Undefined → new ≡ record mid { scopes = with_slot at i v mid.scopes }
+  pub filled-next : (new : Heap) (at : ℕ) (v : Value) → at ≡ length old.scopes → i < n → slice_get args i ≡ Some v → new ≡ record mid { scopes = with_slot at i v mid.scopes }
       → new ≡ record old { scopes = old.scopes ++ scope_filled parent n (i + 1) args ∷ [] }
-  filled-next new at v place within there value put =
+  filled-next new at v place within there put =
       let made : Scope = scope_filled parent n (suc i) args in
       let set : with_slot at i v mid.scopes ≡ old.scopes ++ scope_filled parent n (i + 1) args ∷ [] =
       ap (λ k. with_slot k i v mid.scopes) place
       ∙ ap (λ (found : Option Scope). option_map_or (λ (s : Scope). slice_set mid.scopes (length old.scopes) (record s { slots = slice_set s.slots i v })) found mid.scopes) filled_scope
       ∙ ap (λ (h : Heap). slice_set h.scopes (length old.scopes) (record { parent = Some parent; slots = slice_set (filled Undefined n i args) i v })) is
       ∙ push_set old.scopes (scope_filled parent n i args) (record { parent = Some parent; slots = slice_set (filled Undefined n i args) i v })
-      ∙ ap (λ w. old.scopes ++ record { parent = Some parent; slots = slice_set (filled Undefined n i args) i w } ∷ []) value
-      ∙ ap (λ vs. old.scopes ++ record { parent = Some parent; slots = vs } ∷ []) (filled_set Undefined Undefined n i args within there)
+      ∙ ap (λ vs. old.scopes ++ record { parent = Some parent; slots = vs } ∷ []) (filled_set Undefined n i args v within there)
       ∙ ap (λ k. old.scopes ++ scope_filled parent n k args ∷ []) (sym (add-one i))
       in
       put ∙ ap (λ (h : Heap). record h { scopes = with_slot at i v mid.scopes }) is ∙ ap (λ (ss : List Scope). record old { scopes = ss }) set

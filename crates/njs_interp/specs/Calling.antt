@@ -23,7 +23,7 @@ use Rattle.njs_meaning.specs.Running.{Calls}
 use Rattle.njs_meaning.specs.Replies.{Known}
 use Rattle.njs_meaning.specs.Places.{Bindings}
 use Rattle.njs_meaning.specs.Scopes.{with_scope}
-use Rattle.njs_meaning.specs.Functions.{Function, Program, call_inner, construct_inner, inner_at, is_constructor}
+use Rattle.njs_meaning.specs.Functions.{Function, Program, call_script, construct_script, call_inner, construct_inner, inner_at, is_constructor}
 use Rattle.njs_meaning.specs.Meaning.{functions_of}
 use Rattle.njs_convert.specs.declared.stop.Stop.{Stop}
 use Rattle.njs_convert.specs.Tells.{Tells, ShowsValue}
@@ -89,6 +89,21 @@ pub record RunsInScope (k : Known) (follows : Calls → Type 0) (agrees : Type 0
       → Tells holds stopped new.texts (ShowsValue new.texts) r outcome
 
 -- ---- calls of objects
+
+-- a call of a function of a script, or an object made by it
+abbrev pub script_by : Program → Calls → List (List ℕ) → Way → ℕ → ℕ → ScopeId → ℕ → List PlainValue → State → Outcome PlainValue
+script_by program calls texts (way.Call this) unit number scope f args s = call_script program calls unit number scope (content texts this) args s
+script_by program calls texts way.New unit number scope f args s = construct_script program calls unit number scope f args s
+
+-- the same of a built-in function
+abbrev pub row_by : Answers → Calls → List (List ℕ) → Way → Row → List PlainValue → State → Outcome PlainValue
+row_by means calls texts (way.Call this) row args s = means calls row (content texts this) args false s
+row_by means calls texts way.New row args s = means calls row (Simple Undefined) args true s
+
+-- how a bound function leads to what it is bound to
+abbrev pub bound_way : Way → Value → Way
+bound_way (way.Call this) bound_this = way.Call bound_this
+bound_way way.New bound_this = way.New
 
 -- whether an object can be called by `new`
 abbrev pub can_construct : Program → List PlainObject → PlainValue → Bool

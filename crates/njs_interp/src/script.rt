@@ -1,5 +1,5 @@
 // Calls of functions of scripts (ECMA-262 5.1 §10.4, §13.2.1).
-ghost use Rattle.std.specs.Prelude.{◌≡◌, ◌≤◌, ◌<◌, ◌×◌, [], ◌∷◌, ◌++◌, ℕ, List, length, map, Some, slice_get, IfOk, OnOk};
+ghost use Rattle.std.specs.Prelude.{◌≡◌, ◌≤◌, ◌<◌, [], ◌∷◌, ◌++◌, ℕ, List, length, map, Some, slice_get, IfOk, OnOk};
 ghost use Rattle.std.specs.List.{AllByRecursion};
 ghost use Rattle.njs_shared.specs.Heap.{sizes};
 ghost use Rattle.njs_shared.specs.Fits.{FitsValue};
@@ -111,14 +111,15 @@ pub(crate) fn run_in_scope<C: Runner<L>, L: Ledger>(
     ensures steps { steps.old ≤ steps.new }
 {
     let slots = own_slots(function);
-    let made = call_scope(alloc, machine, parent, slots, function.params, call.args, steps);
+    let params = function.params;
+    let scope = match call_scope(alloc, machine, parent, slots, params, call.args, steps) {
+        Ok(scope) => scope,
+        Err(_) => return Err(Stop::NoMemory),
+    };
     let _sizes = machine.sizes();
-    match made {
-        Ok(scope) => run_code(
-            alloc, functions, function, call, scope, caller, machine, steps,
-        ),
-        Err(_) => Err(Stop::NoMemory),
-    }
+    run_code(
+        alloc, functions, function, call, scope, caller, machine, steps,
+    )
 }
 
 // What a call costs: a tick, and another for each eight names of its scope.

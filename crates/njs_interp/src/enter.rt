@@ -1,0 +1,260 @@
+// Calls of objects, by what they are beside their properties (ECMA-262 5.1 §13.2.1, §13.2.2, §15.3.4.5).
+ghost use Rattle.std.specs.Prelude.{◌≡◌, ◌≤◌, ◌<◌, [], ◌∷◌, ◌++◌, ℕ, List, length, map, IfOk};
+ghost use Rattle.std.specs.List.{AllByRecursion};
+ghost use Rattle.njs_shared.specs.Heap.{sizes};
+ghost use Rattle.njs_shared.specs.Fits.{FitsValue};
+ghost use Rattle.njs_clone.specs.Content.{content};
+ghost use Rattle.njs_meaning.specs.Errors.{first_count};
+ghost use Rattle.njs_meaning.specs.Functions.{Program};
+ghost use Rattle.njs_meaning.specs.Replies.{Known};
+ghost use Rattle.njs_meaning.specs.Running.{Calls, charge};
+ghost use Rattle.njs_meaning.specs.Values.{ObjectAt};
+ghost use Rattle.njs_convert.specs.Tells.{Means, ShowsValue, Grows, FitsAnswer};
+ghost use Rattle.njs_simul.specs.Fits.{Scoped};
+ghost use Rattle.njs_interp.specs.Grown.{Widens};
+ghost use Rattle.njs_interp.specs.Hosts.{counts_of, FitsProgram};
+ghost use Rattle.njs_interp.specs.Standing.{Holds, Stands, FitsWay, by_way};
+ghost use Rattle.njs_interp.specs.Calling.{CodesOf, IsProgram, StandsThere, script_by, row_by, bound_way, refusal, entered};
+
+use crate::construct::construct_script;
+use crate::own::{Again, Own};
+use crate::script::call_script;
+use crate::{Host, InCall, Runner, Way};
+use njs_clone::Machine;
+use njs_code::ValidCode;
+use njs_convert::{Caller, Stop, throw};
+use njs_shared::Inner;
+use njs_text::{NoMemory, Steps};
+use njs_value::{Cause, ObjId, Row, ScopeId, Value};
+use std::alloc::Global;
+use std::sync::ledger::Ledger;
+
+/// A function of a script: its module, its number there, and the scope that it stands in.
+#[derive(Clone, Copy)]
+pub(crate) struct Scripted {
+    pub unit: u32,
+    pub number: u32,
+    pub scope: ScopeId,
+}
+
+// Calls a function of a script, or makes an object by it.
+fn enter_script<C: Runner<L>, L: Ledger>(
+    alloc: Global,
+    codes: &[ValidCode],
+    script: Scripted,
+    object: ObjId,
+    way: Way,
+    args: &[Value],
+    caller: &mut C,
+    machine: &mut Machine<'_>,
+    steps: &mut Steps<L>,
+) -> Result<Value, Stop>
+    requires there { StandsThere (counts_of codes.now) machine.old.scopes script.unit script.number script.scope }
+    requires object { object.0 < length machine.old.objects }
+    requires way { FitsWay (sizes machine.old) way }
+    requires args { AllByRecursion (FitsValue (sizes machine.old)) args.now }
+    requires counts { (C.lent caller.old).counts ≡ counts_of codes.now }
+    requires may { C.may_call caller.old }
+    requires fits { C.fits caller.old machine.old }
+    requires first { first_count ≤ length machine.old.objects }
+    ensures told { (calls : Calls) (k : Known) (program : Program) → CodesOf codes.now k program → C.follows caller.old k calls → C.agrees caller.new k → Means (λ s. C.stands caller.old k machine.old s × Scoped (k.around script.unit script.number) s.scopes script.scope.0) (C.holds caller.new k machine.new) (C.stopped caller.new k) machine.new.texts (ShowsValue machine.new.texts) result (script_by program calls machine.old.texts way script.unit script.number script.scope object.0 (map (content machine.old.texts) args.now)) }
+    ensures value { FitsAnswer (FitsValue (sizes machine.new)) (sizes machine.new) result }
+    ensures kept { (calls : Calls) (k : Known) → C.follows caller.old k calls → C.follows caller.new k calls }
+    ensures agrees { (k : Known) → C.agrees caller.new k → C.agrees caller.old k }
+    ensures may { C.may_call caller.new }
+    ensures fits { C.fits caller.new machine.new }
+    ensures same { C.lent caller.new ≡ C.lent caller.old }
+    ensures spent { C.ticks_of caller.new ≤ C.ticks_of caller.old }
+    ensures widens { Widens machine.old machine.new }
+    ensures steps { steps.old ≤ steps.new }
+{
+    let Scripted {
+        unit,
+        number,
+        scope,
+    } = script;
+    match way {
+        Way::Call(this) => {
+            let call = InCall { unit, this, args };
+            call_script(
+                alloc, codes, &call, number, scope, caller, machine, steps,
+            )
+        }
+        Way::New => construct_script(
+            alloc, codes, unit, number, scope, object, args, caller, machine, steps,
+        ),
+    }
+}
+
+// Calls what a bound function leads to, or makes an object by it. It costs a tick.
+fn enter_bound<C: Runner<L>, L: Ledger>(
+    alloc: Global,
+    target: ObjId,
+    way: Way,
+    args: &[Value],
+    caller: &mut C,
+    machine: &mut Machine<'_>,
+    steps: &mut Steps<L>,
+) -> Result<Value, Stop>
+    requires target { target.0 < length machine.old.objects }
+    requires way { FitsWay (sizes machine.old) way }
+    requires args { AllByRecursion (FitsValue (sizes machine.old)) args.now }
+    requires may { C.may_call caller.old }
+    requires fits { C.fits caller.old machine.old }
+    requires first { first_count ≤ length machine.old.objects }
+    ensures told { (calls : Calls) (k : Known) → C.follows caller.old k calls → C.agrees caller.new k → Means (C.stands caller.old k machine.old) (C.holds caller.new k machine.new) (C.stopped caller.new k) machine.new.texts (ShowsValue machine.new.texts) result (charge 1 (by_way calls machine.old.texts way (ObjectAt target.0) (map (content machine.old.texts) args.now))) }
+    ensures value { FitsAnswer (FitsValue (sizes machine.new)) (sizes machine.new) result }
+    ensures kept { (calls : Calls) (k : Known) → C.follows caller.old k calls → C.follows caller.new k calls }
+    ensures agrees { (k : Known) → C.agrees caller.new k → C.agrees caller.old k }
+    ensures may { C.may_call caller.new }
+    ensures fits { C.fits caller.new machine.new }
+    ensures same { C.lent caller.new ≡ C.lent caller.old }
+    ensures spent { C.ticks_of caller.new ≤ C.ticks_of caller.old }
+    ensures grows { Grows machine.old machine.new }
+    ensures steps { steps.old ≤ steps.new }
+{
+    let _sizes = machine.sizes();
+    if let Err(stop) = caller.charge(1) {
+        return Err(stop);
+    }
+    match way {
+        Way::Call(this) => caller.call(alloc, machine, Value::Obj(target), this, args, steps),
+        Way::New => caller.construct(alloc, machine, Value::Obj(target), args, steps),
+    }
+}
+
+// Calls a built-in function, or makes an object by it.
+fn enter_built_in<H: Host, L: Ledger, A: Again<H, Steps<L>>>(
+    alloc: Global,
+    row: Row,
+    way: Way,
+    args: &[Value],
+    own: &mut Own<'_, H, A>,
+    machine: &mut Machine<'_>,
+    steps: &mut Steps<L>,
+) -> Result<Value, Stop>
+    requires row { H.rows row }
+    requires way { FitsWay (sizes machine.old) way }
+    requires args { AllByRecursion (FitsValue (sizes machine.old)) args.now }
+    requires may { A.may own.old.run }
+    requires fits { FitsProgram H.rows (H.zones own.old.host.now) (A.counts own.old.run) machine.old }
+    ensures told { (calls : Calls) (k : Known) → A.follows own.old.run k calls → H.agrees own.new.host.now k → Means (Stands (H.keeps own.old.host.now) own.old.fuel.now.left k machine.old) (Stands (H.keeps own.new.host.now) own.new.fuel.now.left k machine.new) (H.halted own.new.host.now k) machine.new.texts (ShowsValue machine.new.texts) result (row_by H.means calls machine.old.texts way row (map (content machine.old.texts) args.now)) }
+    ensures agrees { (k : Known) → H.agrees own.new.host.now k → H.agrees own.old.host.now k }
+    ensures fits { FitsProgram H.rows (H.zones own.new.host.now) (A.counts own.new.run) machine.new }
+    ensures same { record { names = own.new.fuel.ghost_name ∷ own.new.host.ghost_name ∷ []; counts = A.counts own.new.run } ≡ record { names = own.old.fuel.ghost_name ∷ own.old.host.ghost_name ∷ []; counts = A.counts own.old.run } }
+    ensures value { FitsAnswer (FitsValue (sizes machine.new)) (sizes machine.new) result }
+    ensures spent { own.new.fuel.now.left ≤ own.old.fuel.now.left }
+    ensures grows { Grows machine.old machine.new }
+    ensures steps { steps.old ≤ steps.new }
+{
+    match way {
+        Way::Call(this) => H::built_in(alloc, row, own, machine, this, args, false, steps),
+        Way::New => H::built_in(
+            alloc,
+            row,
+            own,
+            machine,
+            Value::Undefined,
+            args,
+            true,
+            steps,
+        ),
+    }
+}
+
+// The arguments of a bound function, and then those of a call of it.
+fn joined(alloc: Global, first: &[Value], args: &[Value]) -> Result<Vec<Value>, NoMemory>
+    ensures { IfOk result (λ all. all.items ≡ first.now ++ args.now) }
+{
+    let mut all = Vec::from_slice(alloc, first)?;
+    all.extend_from_slice(args)?;
+    Ok(all)
+}
+
+fn bound_way(way: Way, this: Value) -> Way
+    ensures { result ≡ bound_way way this }
+{
+    match way {
+        Way::Call(_) => Way::Call(this),
+        Way::New => Way::New,
+    }
+}
+
+// What is thrown where a value can't be called so.
+pub(crate) fn refusal(way: Way) -> Cause
+    ensures { result ≡ refusal way }
+{
+    match way {
+        Way::Call(_) => Cause::NotFunction,
+        Way::New => Cause::NotConstructor,
+    }
+}
+
+/// Calls an object with arguments, or makes an object by it.
+pub(crate) fn enter<H: Host, L: Ledger, A: Again<H, Steps<L>>>(
+    alloc: Global,
+    codes: &[ValidCode],
+    object: ObjId,
+    way: Way,
+    args: &[Value],
+    own: &mut Own<'_, H, A>,
+    machine: &mut Machine<'_>,
+    steps: &mut Steps<L>,
+) -> Result<Value, Stop>
+    requires object { object.0 < length machine.old.objects }
+    requires way { FitsWay (sizes machine.old) way }
+    requires args { AllByRecursion (FitsValue (sizes machine.old)) args.now }
+    requires counts { A.counts own.old.run ≡ counts_of codes.now }
+    requires may { A.may own.old.run }
+    requires fits { FitsProgram H.rows (H.zones own.old.host.now) (A.counts own.old.run) machine.old }
+    ensures told { (calls : Calls) (k : Known) (program : Program) → IsProgram H.means H.constructs codes.now k program → A.follows own.old.run k calls → H.agrees own.new.host.now k → Means (Stands (H.keeps own.old.host.now) own.old.fuel.now.left k machine.old) (Holds (H.keeps own.new.host.now) own.new.fuel.now.left k machine.new) (H.halted own.new.host.now k) machine.new.texts (ShowsValue machine.new.texts) result (entered program calls machine.old.texts way object.0 (map (content machine.old.texts) args.now)) }
+    ensures agrees { (k : Known) → H.agrees own.new.host.now k → H.agrees own.old.host.now k }
+    ensures fits { FitsProgram H.rows (H.zones own.new.host.now) (A.counts own.new.run) machine.new }
+    ensures same { record { names = own.new.fuel.ghost_name ∷ own.new.host.ghost_name ∷ []; counts = A.counts own.new.run } ≡ record { names = own.old.fuel.ghost_name ∷ own.old.host.ghost_name ∷ []; counts = A.counts own.old.run } }
+    ensures value { FitsAnswer (FitsValue (sizes machine.new)) (sizes machine.new) result }
+    ensures spent { own.new.fuel.now.left ≤ own.old.fuel.now.left }
+    ensures grows { Grows machine.old machine.new }
+    ensures steps { steps.old ≤ steps.new }
+{
+    match &machine.object(object).inner {
+        Inner::Script {
+            module,
+            code,
+            scope,
+        } => {
+            let script = Scripted {
+                unit: *module,
+                number: *code,
+                scope: *scope,
+            };
+            enter_script(
+                alloc, codes, script, object, way, args, own, machine, steps,
+            )
+        }
+        Inner::BuiltIn(row) => {
+            let row = *row;
+            enter_built_in(alloc, row, way, args, own, machine, steps)
+        }
+        Inner::Bound {
+            target,
+            this,
+            args: first,
+        } => {
+            let target = *target;
+            let way = bound_way(way, *this);
+            match joined(alloc, first.as_slice(), args) {
+                Ok(all) => enter_bound(
+                    alloc,
+                    target,
+                    way,
+                    all.as_slice(),
+                    own,
+                    machine,
+                    steps,
+                ),
+                Err(_) => Err(Stop::NoMemory),
+            }
+        }
+        Inner::Plain | Inner::ZoneNumber(_) => Err(throw(alloc, machine, refusal(way), steps)),
+    }
+}
