@@ -17,6 +17,7 @@ use Rattle.njs_code.specs.Facts.{StandsAt, JumpStands, PartRule}
 use Rattle.njs_meaning.specs.Values.{PlainValue}
 use Rattle.njs_meaning.specs.State.{State, Outcome, Gives, Throws, Spent, Asks}
 use Rattle.njs_meaning.specs.Replies.{state_of}
+use Rattle.njs_meaning.specs.Running.{Calls}
 use Rattle.njs_convert.specs.declared.stop.Stop.{Stop}
 use Rattle.njs_convert.specs.declared.stop.Stop.TheVariants.{Throw, Fuel}
 use Rattle.njs_convert.specs.declared.stop.Stop.TheVariants as stop
@@ -28,7 +29,7 @@ use Rattle.njs_simul.specs.Runs.{Runs, LeadsOut}
 use Rattle.njs_simul.specs.Fits.{Names, Good, CallsFare}
 use Rattle.njs_simul.specs.Asking.{Holding, CallsEnd}
 use Rattle.njs_simul.proofs.AskingSteps.{IsThrough}
-use Rattle.njs_simul.proofs.AskingRuns.{run_to, out_to}
+use Rattle.njs_simul.proofs.AskingRuns.{run_to}
 use Rattle.njs_interp.specs.declared.next.Next.{Next}
 use Rattle.njs_interp.specs.declared.next.Next.TheVariants as next
 use Rattle.njs_interp.specs.declared.stacks.Ending.{Ending}
@@ -37,13 +38,13 @@ use Rattle.njs_interp.specs.declared.stacks.Stacks.{Stacks}
 use Rattle.njs_interp.specs.declared.turn.Turned.{Turned}
 use Rattle.njs_interp.specs.declared.turn.Turned.TheVariants as turned
 use Rattle.njs_interp.specs.Plain.{plain_ending, plain_stacks}
-use Rattle.njs_interp.specs.Sits.{Sits, FitsEnding}
+use Rattle.njs_interp.specs.Sits.{Sits, FitsEnding, Ready}
 use Rattle.njs_interp.specs.Acts.{Below, state_in}
 use Rattle.njs_interp.specs.Jumps.{ActsNext, LeavesNext}
 use Rattle.njs_interp.specs.Standing.{CallsKeep}
 use Rattle.njs_interp.specs.Leading.{Led, LedTo, RunsOn, LeavesLed, Further, SitsAt}
-use Rattle.njs_interp.specs.Stepping.{GoesTo}
-use Rattle.njs_interp.specs.Turning.{over, turned_by, LeadsTo, WentOn, TurnTells, LeavesTurned, Onward}
+use Rattle.njs_interp.specs.Stepping.{GoesTo, Steps}
+use Rattle.njs_interp.specs.Turning.{over, turned_by, LeadsTo, WentOn, TurnTells, Turns, LeavesTurned, Onward}
 use Rattle.njs_interp.proofs.Leading.{from_at, same_first, same_at, at_within, StandsOn, next_stands}
 
 -- ---- the run
@@ -86,10 +87,19 @@ module _ (env : Names) (frame : Frame) (stopped : State → Type 0) (fare : Call
   pub run_stopped : (code : List Op) (outcome : Outcome PlainValue) (rest : List Op) (st : plain.Stacks) (s : State) → Runs (Good env) frame code outcome rest st s → stopped s → stopped (state_of outcome)
   run_stopped code outcome rest st s run = run_to (Holding stopped) through env frame code fare ends outcome run
 
+  ended_stopped : (e : plain.Ending) (s : State) → stopped s → stopped (state_of (ended_by e s))
+  ended_stopped (Ended c) s before = before
+  ended_stopped (Thrown v) s before = before
+
+  out_stopped : (code : List Op) (outcome : Outcome PlainValue) (around : Option Address) (e : plain.Ending) (st : plain.Stacks) (s : State) → LeadsOut (Good env) frame code outcome around e st s → stopped s → stopped (state_of outcome)
+  out_stopped code outcome around e st s (LeadsOut.over _ _ _ is) before = subst (λ o. stopped (state_of o)) is (ended_stopped e s before)
+  out_stopped code outcome around e st s (LeadsOut.taken_up at op rest _ _ _ next after here within is run) before = run_stopped code outcome next after s run before
+  out_stopped code outcome around e st s (LeadsOut.passed_by at op rest _ _ _ here within is out) before = out_stopped code outcome op.around e st s out before
+
   acted_stopped : (code : List Op) (outcome : Outcome PlainValue) (around : Option Address) (a : Action) → Acted (Good env) frame code outcome around a → state_in a stopped → stopped (state_of outcome)
   acted_stopped code outcome around (Goes rest st t) run before = run_stopped code outcome rest st t run before
   acted_stopped code outcome around (Ends o) is before = subst (λ o. stopped (state_of o)) is before
-  acted_stopped code outcome around (Leads e st t) out before = out_to (Holding stopped) through env frame code fare ends outcome out before
+  acted_stopped code outcome around (Leads e st t) out before = out_stopped code outcome around e st t out before
   acted_stopped code outcome around Stuck run before = absurd run
 
   module _ (holds : State → Type 0) (stops : (t : State) → holds t → Good env t → stopped t) (texts : List (List ℕ)) (f : FunctionCode) (outcome : Outcome PlainValue) where
@@ -243,3 +253,26 @@ went_falls P f place op before after (Ok n) r falls spends went = given_on P r f
 went_falls P f place op before after (Err (Throw v)) r falls spends went = absurd (cc)
 went_falls P f place op before after (Err Fuel) r falls spends went = subst (λ r. OnOk r P) (sym went.0) tt
 went_falls P f place op before after (Err stop.NoMemory) r falls spends went = absurd (cc)
+
+-- ---- one turn
+
+-- an operation finds what it takes, needs and names
+pub ready_at : (functions : List FunctionCode) (f : FunctionCode) (op : Op) (place : ℕ) (h : Heap) (st : Stacks) → PartRule functions f → StandsAt f.ops place op → Sits h f.slots op.depth st → Ready functions f op h st
+ready_at functions f op place h st part stands sits =
+    let rule = part.ops stands.index op stands.found in
+    record { sits = sits; operands = rule.operands; scopes = rule.scopes; lists = rule.lists; endings = rule.endings; names = rule.names }
+
+module _ (env : Names) (follows : Calls → Type 0) (agrees : Type 0) (stands holds stopped : State → Type 0) (unit : ℕ) (this : Value) (args : List Value) (f : FunctionCode) (place : ℕ) (op : Op) (at : StandsAt f.ops place op) where
+  -- a step, and where the code went on by it
+  pub turn_told : (old new : Heap) (before mid after : Stacks) (answer : Result Next Stop) (r : Result Turned Stop) → ((t : State) → holds t → Good env t → stopped t) → ((s t : State) → t.zones ≡ s.zones → t.asked ≡ s.asked → stopped s → stopped t)
+      → ((calls : Calls) → follows calls → CallsFare env calls) → ((calls : Calls) → follows calls → CallsKeep stopped calls)
+      → Steps follows agrees stands holds stopped unit this args op.kind old new before mid answer → WentOn f place op mid after answer r
+      → Turns env follows agrees stands holds stopped unit this args f.ops place old new before after r
+  turn_told old new before mid after answer r stops same fares keeps told went = record {
+    by = λ calls frame outcome s follow agree same_calls is here run.
+        let behind = from frame f.ops (place - 1) in
+        let st = plain_stacks old.texts before in
+        went_told env frame stopped (subst (CallsFare env) (sym same_calls) (fares calls follow)) (subst (CallsKeep stopped) (sym same_calls) (keeps calls follow)) same holds stops new.texts f outcome place op mid after answer r
+        (act frame f.ops op.kind behind st s) (acted (Good env) frame f.ops outcome (from frame f.ops place) op behind st s (from_at frame f.ops place op at) run)
+        (told.by calls frame f.ops behind s follow agree same_calls is here) went;
+  }

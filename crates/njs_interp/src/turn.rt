@@ -73,7 +73,7 @@ fn go_on<'a>(
 ) -> Result<Turned, Stop>
     requires part { PartRule at.now.functions.now at.now.function.now }
     requires place { StandsAt at.now.function.now.ops place at.now.op.now }
-    requires leaves { (h : Heap) × LeavesNext at.now.function.now at.now.op.now h stacks.old next.entry }
+    requires leaves { (h : Heap) × LeavesNext at.now.function.now at.now.op.now h stacks.old next }
     ensures { WentOn at.now.function.now place at.now.op.now stacks.old stacks.new next.entry result }
 {
     match next {
