@@ -30,7 +30,7 @@ use Rattle.njs_interp.proofs.Parameters.{filled_content}
 -- nothing stands past the end of a list
 pub past-end : {A : Type 0} (xs : List A) (i : ℕ) → slice_get xs i ≡ None → length xs ≤ i
 past-end xs i none = elim ((slice_get_cases xs i).1) [
-  | inl found ↦ (let never : None ≡ Some found.0 = sym none ∙ found.2.0 in cc)
+  | inl found ↦ (let never : None ≡ Some found.0 = sym none ∙ found.2 in cc)
   | inr past ↦ past.0
 ]
 

@@ -36,6 +36,8 @@ pub mod AskedHeap
 pub mod Parameters
 pub mod CallScopes
 pub mod Scripts
+pub mod Constructing
+pub mod Bodies
 pub mod Turning
 pub mod Running
 pub mod Lifting

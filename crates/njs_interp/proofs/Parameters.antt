@@ -42,18 +42,19 @@ apart_of name first rest h = (or_parts (bytes_eq name first) (list_any (bytes_eq
 
 -- ---- names that are no parameters
 
+by_test : (P : List (List ℕ) → Type 0) (b : Bool) (xs ys : List (List ℕ)) → (b ≡ true → P xs) → (b ≡ false → P ys) → P (if b then xs else ys)
+by_test P true xs ys f g = f refl
+by_test P false xs ys f g = g refl
+
 none_filled : (value : List ℕ → PlainValue) (before names : List (List ℕ)) (args : List PlainValue) → ((name : List ℕ) → Apart name before → value name ≡ Simple Undefined)
     → map value (each_once before names) ≡ filled (Simple Undefined) (length (each_once before names)) 0 args
 none_filled value before [] args none = refl
-none_filled value before (name ∷ names) args none = by (list_any (bytes_eq name) before) refl
-  where
-    by : (b : Bool) → list_any (bytes_eq name) before ≡ b
-        → map value (if b then each_once before names else name ∷ each_once (name ∷ before) names)
-        ≡ filled (Simple Undefined) (length (if b then each_once before names else name ∷ each_once (name ∷ before) names)) 0 args
-    by true is = none_filled value before names args none
-    by false is =
-        ap (λ v. v ∷ map value (each_once (name ∷ before) names)) (none name is)
-        ∙ ap (λ vs. Simple Undefined ∷ vs) (none_filled value (name ∷ before) names args (λ other apart. none other (apart_of other name before apart)))
+none_filled value before (name ∷ names) args none =
+    by_test (λ ns. map value ns ≡ filled (Simple Undefined) (length ns) 0 args) (list_any (bytes_eq name) before) (each_once before names) (name ∷ each_once (name ∷ before) names)
+    (λ is. none_filled value before names args none)
+    (λ is.
+    ap (λ v. v ∷ map value (each_once (name ∷ before) names)) (none name is)
+    ∙ ap (λ vs. Simple Undefined ∷ vs) (none_filled value (name ∷ before) names args (λ other apart. none other (apart_of other name before apart))))
 
 -- ---- parameters
 

@@ -1,5 +1,5 @@
 -- The functions of scripts, and runs of their code in the scopes of calls.
-use Rattle.std.proofs.Common.{◌≡◌, ℕ, suc, ◌-◌, ◌<◌, ◌≤◌, List, [], ◌∷◌, length, map, true, false, Option, Some, None, Result, Ok, Err, slice_get, refl, sym, ap, ◌∙◌, subst, arith, inl, inr}
+use Rattle.std.proofs.Common.{◌≡◌, ℕ, suc, ◌-◌, ◌<◌, ◌≤◌, List, [], ◌∷◌, length, map, Bool, true, false, Option, Some, None, Result, Ok, Err, slice_get, refl, sym, ap, ◌∙◌, subst, arith, inl, inr}
 use Rattle.std.specs.Prelude.{nat_lt, if◌then◌else◌}
 use Rattle.std.specs.Option.{option_map, option_map_or, option_and_then}
 use Rattle.std.proofs.lemmas.Bool.{le-ltb, lt-ltb}
@@ -16,7 +16,7 @@ use Rattle.njs_clone.specs.Content.{content}
 use Rattle.njs_code.specs.declared.code.Code.{Code}
 use Rattle.njs_code.specs.declared.code.FunctionCode.{FunctionCode}
 use Rattle.njs_code.specs.declared.op.Op.{Op}
-use Rattle.njs_code.specs.Facts.{PartRule, FunctionRule, CodeRule}
+use Rattle.njs_code.specs.Facts.{HasParams}
 use Rattle.njs_meaning.specs.Primitives.{Undefined}
 use Rattle.njs_meaning.specs.Values.{PlainValue, Simple}
 use Rattle.njs_meaning.specs.PlainHeap.{Variable}
@@ -46,18 +46,23 @@ use Rattle.njs_interp.specs.Acts.{SameBeside}
 use Rattle.njs_interp.specs.Hosts.{behind_own, counts_of}
 use Rattle.njs_interp.specs.Stepping.{CountsAre}
 use Rattle.njs_interp.specs.Sits.{SlotsFrom}
+use Rattle.njs_interp.specs.Standing.{CallsKeep}
 use Rattle.njs_interp.specs.Tells.{IsFrame}
 use Rattle.njs_interp.specs.Calling.{CodesOf, own_slots, filled}
 use Rattle.njs_interp.proofs.Kept.{map-at}
 use Rattle.njs_interp.proofs.Parameters.{first_filled}
+use Rattle.njs_interp.proofs.Turning.{run_stopped}
 
 -- ---- a function of a module
 
 is_within : {A : Type 0} (xs : List A) (at : ℕ) → at < length xs → (x : A) × (slice_get xs at ≡ Some x)
 is_within xs at below = elim ((slice_get_cases xs at).1) [
-  | inl found ↦ (found.0, found.2.0)
+  | inl found ↦ (found.0, found.2)
   | inr past ↦ absurd (omega (arith, below, past.0))
 ]
+
+some_is : {A : Type 0} (x y : A) → Some x ≡ Some y → x ≡ y
+some_is x y is = cc
 
 map_there : {A B : Type 0} (f : A → B) (xs : List A) (at : ℕ) (x : A) → slice_get xs at ≡ Some x → slice_get (map f xs) at ≡ Some (f x)
 map_there f xs at x there = slice_get-map f xs at ∙ ap (option_map f) there
@@ -141,6 +146,26 @@ pub own_of : (slots around : List ℕ) → behind_own slots ≡ Some around → 
 own_of [] around is = cc
 own_of (own ∷ rest) around is = let same : rest ≡ around = cc in ap (λ l. own ∷ l) same
 
+-- as many slots as parameters, at least
+pub own_params : (slots : List ℕ) (params : ℕ) → HasParams slots params → params ≤ own_slots slots
+own_params [] params has = let never : None ≡ Some has.own = has.found in cc
+own_params (own ∷ around) params has = let same : own ≡ has.own = cc in omega (arith, same, has.fit)
+
+-- the code that is there, and the function
+pub function_there : (codes : List Code) (unit number : ℕ) (slots : List ℕ) → counts_of codes unit number ≡ Some slots → (code : Code) → slice_get codes unit ≡ Some code
+    → (f : FunctionCode) × (slice_get code.functions number ≡ Some f) × (behind_own f.slots ≡ Some slots)
+function_there codes unit number slots counted code here =
+    let there = code_there codes unit number slots counted in
+    let same : there.code ≡ code = some_is there.code code (sym there.found ∙ here) in
+    (there.function, subst (λ (c : Code). slice_get c.functions number ≡ Some there.function) same there.there, there.around)
+
+pub around_there : (codes : List Code) (unit number : ℕ) (slots : List ℕ) → counts_of codes unit number ≡ Some slots → (code : Code) → slice_get codes unit ≡ Some code
+    → (f : FunctionCode) → slice_get code.functions number ≡ Some f → behind_own f.slots ≡ Some slots
+around_there codes unit number slots counted code here f is =
+    let there = function_there codes unit number slots counted code here in
+    let same : there.0 ≡ f = some_is there.0 f (sym there.1 ∙ is) in
+    subst (λ (f : FunctionCode). behind_own f.slots ≡ Some slots) same there.2
+
 -- ---- ticks
 
 module _ (after stopped : State → Type 0) (texts : List (List ℕ)) (n ticks left : ℕ) (go : State → Outcome PlainValue) (s : State) (own : s.ticks ≡ ticks) where
@@ -196,3 +221,21 @@ module _ (env : Names) (program : Program) (unit number : ℕ) (code : FunctionC
         first_filled f args is.distinct
         ∙ ap (λ n. filled (Simple Undefined) n (length f.params) args) (sym own_count)
         ∙ ap (λ n. filled (Simple Undefined) (own_slots code.slots) n args) (sym is.means.params)
+
+    -- a call keeps what is known after want of memory
+    module _ (stopped : State → Type 0) (same : (s t : State) → t.zones ≡ s.zones → t.asked ≡ s.asked → stopped s → stopped t) (fare : CallsFare env calls) (keep : CallsKeep stopped calls) where
+      body_keeps : (t : State) → Scoped (env unit number) t.scopes scope.0 → Good env t → stopped t → stopped (state_of (body_from t))
+      body_keeps t scoped good before =
+          let u = with_scope scope (first_variables f args) t in
+          run_stopped env frame_of stopped fare keep same code.ops (body_from t) code.ops (starting (length t.scopes)) u (body_runs t fare scoped good) (same t u refl refl before)
+
+      pub script_keeps : (s : State) → Scoped (env unit number) s.scopes scope.0 → Good env s → stopped s → stopped (state_of (call_script program calls unit number scope this args s))
+      script_keeps s scoped good before =
+          subst (λ o. stopped (state_of o)) (sym (script_is s)) (by (nat_lt s.ticks (one_and (length (names_of_scope f)) 8)))
+        where
+          paid : State
+          paid = record s { ticks = s.ticks - one_and (length (names_of_scope f)) 8 }
+
+          by : (few : Bool) → stopped (state_of (if few then Spent s else body_from paid))
+          by true = before
+          by false = body_keeps paid scoped (record { each = good.each }) (same s paid refl refl before)

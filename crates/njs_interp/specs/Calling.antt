@@ -1,17 +1,20 @@
 -- Calls of values, and of functions of scripts: the program that codes are of, and the scopes that calls begin with.
-use Rattle.std.specs.Prelude.{◌≡◌, ℕ, zero, suc, List, [], ◌∷◌, length, map, Bool, true, false, Option, Some, slice_get, Result}
+use Rattle.std.specs.Prelude.{◌≡◌, ◌≤◌, ℕ, zero, suc, List, [], ◌∷◌, length, map, Bool, true, false, Option, Some, None, slice_get, Result}
 use Rattle.std.specs.Option.{option_map_or}
 use Rattle.njs_tree.specs.declared.tree.Script.{Script}
 use Rattle.njs_tree.specs.Early.{repeats}
 use Rattle.njs_value.specs.declared.Cause.{Cause}
 use Rattle.njs_value.specs.declared.Cause.TheVariants.{NotFunction, NotConstructor}
+use Rattle.njs_value.specs.declared.ObjId.{ObjId}
 use Rattle.njs_value.specs.declared.Row.{Row}
 use Rattle.njs_value.specs.declared.ScopeId.{ScopeId}
 use Rattle.njs_value.specs.declared.Value.{Value}
 use Rattle.njs_value.specs.declared.Value.TheVariants as value
 use Rattle.njs_shared.specs.declared.object.Scope.{Scope}
-use Rattle.njs_shared.specs.Heap.{Heap}
+use Rattle.njs_shared.specs.Heap.{Heap, sizes}
+use Rattle.njs_shared.specs.Fits.{FitsValue}
 use Rattle.njs_clone.specs.Content.{content}
+use Rattle.njs_clone.specs.StandsFor.{plain_objects}
 use Rattle.njs_code.specs.declared.code.Code.{Code}
 use Rattle.njs_code.specs.declared.code.FunctionCode.{FunctionCode}
 use Rattle.njs_meaning.specs.Primitives.{Undefined}
@@ -26,7 +29,7 @@ use Rattle.njs_meaning.specs.Scopes.{with_scope}
 use Rattle.njs_meaning.specs.Functions.{Function, Program, call_script, construct_script, call_inner, construct_inner, inner_at, is_constructor}
 use Rattle.njs_meaning.specs.Meaning.{functions_of}
 use Rattle.njs_convert.specs.declared.stop.Stop.{Stop}
-use Rattle.njs_convert.specs.Tells.{Tells, ShowsValue}
+use Rattle.njs_convert.specs.Tells.{Tells, ShowsValue, Grows, FitsAnswer}
 use Rattle.njs_simul.specs.Stacks.{Frame}
 use Rattle.njs_simul.specs.Compiled.{code_of}
 use Rattle.njs_simul.specs.Fits.{Good}
@@ -35,7 +38,7 @@ use Rattle.njs_simul.specs.Runs.{Runs}
 use Rattle.njs_interp.specs.declared.own.Way.{Way}
 use Rattle.njs_interp.specs.declared.own.Way.TheVariants as way
 use Rattle.njs_interp.specs.Sits.{SlotsFrom}
-use Rattle.njs_interp.specs.Hosts.{Answers}
+use Rattle.njs_interp.specs.Hosts.{Answers, FitsProgram}
 use Rattle.njs_interp.specs.Tells.{IsFrame}
 
 -- ---- programs
@@ -115,6 +118,11 @@ abbrev pub may_enter : Program → Way → List PlainObject → PlainValue → B
 may_enter program (way.Call this) objects f = is_callable objects f
 may_enter program way.New objects f = can_construct program objects f
 
+-- the object that a value is, where it may be called so
+abbrev pub IsEntered : Program → Heap → Value → Way → Option ObjId → Type 0
+IsEntered program h callee way None = may_enter program way (plain_objects h) (content h.texts callee) ≡ false
+IsEntered program h callee way (Some object) = (callee ≡ value.Obj object) × (may_enter program way (plain_objects h) (content h.texts callee) ≡ true)
+
 -- what is thrown where it may not
 abbrev pub refusal : Way → Cause
 refusal (way.Call this) = NotFunction
@@ -124,3 +132,15 @@ refusal way.New = NotConstructor
 abbrev pub entered : Program → Calls → List (List ℕ) → Way → ℕ → List PlainValue → State → Outcome PlainValue
 entered program calls texts (way.Call this) f args s = call_inner program calls (inner_at s.objects f) (content texts this) args s
 entered program calls texts way.New f args s = construct_inner program calls f (inner_at s.objects f) args s
+
+-- ---- runs that are entered
+
+-- what a call leaves, whatever comes of it: the host's replies and machines that fit, no fewer objects, scopes and texts, and no
+-- more ticks
+pub record Entered (rows : Row → Type 0) (counts : ℕ → ℕ → Option (List ℕ)) (agreed agrees : Known → Type 0) (zones : ℕ) (old new : Heap) (r : Result Value Stop) (ticks left count counted : ℕ) : Type 0 where
+  pub agreed : (k : Known) → agrees k → agreed k
+  pub fits : FitsProgram rows zones counts new
+  pub grows : Grows old new
+  pub value : FitsAnswer (FitsValue (sizes new)) (sizes new) r
+  pub spent : left ≤ ticks
+  pub steps : count ≤ counted

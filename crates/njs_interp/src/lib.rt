@@ -11,6 +11,7 @@ mod enter;
 mod functions;
 mod host;
 mod in_call;
+mod invoke;
 mod jumps;
 mod lead;
 mod lists;

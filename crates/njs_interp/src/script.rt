@@ -52,6 +52,13 @@ fn function_at<'a>(code: &'a Code, number: u32) -> &'a FunctionCode
     code.functions.get(number as usize).unwrap()
 }
 
+// The argument at a place, or none from their number on.
+fn argument(args: &[Value], place: u32) -> Option<Value>
+    ensures { result ≡ slice_get args.now place }
+{
+    args.get(place as usize).copied()
+}
+
 /// The scope of a call (§10.5), below another: so many slots, of which the first, for the parameters, have the arguments.
 fn call_scope<L: Ledger>(
     alloc: Global,
@@ -72,10 +79,10 @@ fn call_scope<L: Ledger>(
 {
     let scope = machine.new_scope(alloc, parent, slots, steps)?;
     for place in 0..params {
-        let Some(value) = args.get(place as usize) else {
+        let Some(value) = argument(args, place) else {
             return Ok(scope);
         };
-        machine.scope_put(alloc, scope, place, *value, steps)?;
+        machine.scope_put(alloc, scope, place, value, steps)?;
     }
     Ok(scope)
 }

@@ -1,4 +1,4 @@
-use Rattle.std.proofs.Common.{◌≡◌, ◌∙◌, ◌++◌, ◌∷◌, [], Some, None, slice_get, ap, sym, subst, arith, rules}
+use Rattle.std.proofs.Common.{◌≡◌, ◌∙◌, ◌++◌, ◌∷◌, [], Some, None, slice_get, ap, sym, subst, arith}
 use Rattle.njs_value.specs.declared.Value.TheVariants.{Undefined}
 use Rattle.njs_shared.specs.Heap.{Heap, sizes}
 use Rattle.njs_shared.specs.Fits.{FitsValue}
@@ -18,7 +18,7 @@ loop-place-init g c = record {
 pub returns-in_default-clause-filled : goal.returns-in_default-clause-filled
 returns-in_default-clause-filled g c =
     let h : Heap = c.args.machine.now in
-    let none : slice_get c.args.args.now c.loop-place.place ≡ None = search rules in
+    let none : slice_get c.args.args.now c.loop-place.place ≡ None = sym c.argument.ensures ∙ c.in_default.is in
     c.loop-place.invariant.filled
     ∙ ap (λ vs. record h { scopes = h.scopes ++ record { parent = Some c.args.parent; slots = vs } ∷ [] })
     (filled_all Undefined c.args.slots c.loop-place.place c.args.params c.args.args.now (omega (arith, c.loop-place-test.true)) (past-end c.args.args.now c.loop-place.place none))
@@ -37,9 +37,9 @@ scope_put-requires-clause-slot g c =
 
 pub scope_put-requires-clause-value : goal.scope_put-requires-clause-value
 scope_put-requires-clause-value g c =
-    let there : slice_get c.args.args.now c.loop-place.place ≡ Some c.in-Some.value.now = search rules in
-    filled-value c.args.machine.now c.loop-place.machine c.args.parent c.args.slots c.loop-place.place c.args.args.now c.loop-place.invariant.filled c.in-Some.value.now
-    (all-at (FitsValue (sizes c.args.machine.now)) c.args.args.now c.loop-place.place c.in-Some.value.now c.requires.args there)
+    let there : slice_get c.args.args.now c.loop-place.place ≡ Some c.in-Some.value = sym c.argument.ensures ∙ c.in-Some.is in
+    filled-value c.args.machine.now c.loop-place.machine c.args.parent c.args.slots c.loop-place.place c.args.args.now c.loop-place.invariant.filled c.in-Some.value
+    (all-at (FitsValue (sizes c.args.machine.now)) c.args.args.now c.loop-place.place c.in-Some.value c.requires.args there)
 
 pub returns-in_err-scope_put-clause-grown : goal.returns-in_err-scope_put-clause-grown
 returns-in_err-scope_put-clause-grown g c =
@@ -47,9 +47,9 @@ returns-in_err-scope_put-clause-grown g c =
 
 pub loop-place-preserved : goal.loop-place-preserved
 loop-place-preserved g c =
-    let there : slice_get c.args.args.now c.loop-place.place ≡ Some c.in-Some.value.now = search rules in
+    let there : slice_get c.args.args.now c.loop-place.place ≡ Some c.in-Some.value = sym c.argument.ensures ∙ c.in-Some.is in
     record {
-      filled = filled-next c.args.machine.now c.loop-place.machine c.args.parent c.args.slots c.loop-place.place c.args.args.now c.loop-place.invariant.filled c.scope_put.new.self c.in_ok-scope.scope.0 c.in-Some.value.now
+      filled = filled-next c.args.machine.now c.loop-place.machine c.args.parent c.args.slots c.loop-place.place c.args.args.now c.loop-place.invariant.filled c.scope_put.new.self c.in_ok-scope.scope.0 c.in-Some.value
           c.in_ok-scope.ensures.number (omega (arith, c.loop-place-test.true, c.requires.params)) there c.in_ok-scope_put.ensures.ok;
       steps = omega (arith, c.loop-place.invariant.steps, c.scope_put.ensures.cells.0);
     }
