@@ -8,12 +8,13 @@ use Rattle.njs_code.specs.declared.code.FunctionCode.{FunctionCode}
 use Rattle.njs_meaning.specs.Primitives.{Undefined}
 use Rattle.njs_meaning.specs.Values.{PlainValue, Simple}
 use Rattle.njs_meaning.specs.PlainHeap.{Variable}
-use Rattle.njs_meaning.specs.State.{State, Outcome}
+use Rattle.njs_meaning.specs.State.{State, Outcome, Gives}
 use Rattle.njs_meaning.specs.Running.{Calls}
 use Rattle.njs_meaning.specs.Places.{Bindings, Around, assignable}
 use Rattle.njs_meaning.specs.Parts.{Declared}
 use Rattle.njs_meaning.specs.Scopes.{unbound, with_scope}
-use Rattle.njs_meaning.specs.Functions.{each_once}
+use Rattle.njs_meaning.specs.Functions.{Program, each_once}
+use Rattle.njs_meaning.specs.Replies.{Known}
 use Rattle.njs_meaning.specs.Meaning.{Item_means, script_part, module_names, run_module}
 use Rattle.njs_simul.specs.Stacks.{Frame}
 use Rattle.njs_simul.specs.EmissionOfStatements.{CodedPart}
@@ -29,8 +30,10 @@ use Rattle.njs_simul.proofs.Pairs.{Each}
 use Rattle.njs_simul.proofs.Program.{items_tied, program_means}
 use Rattle.njs_simul.proofs.TiedParts.{Knows}
 use Rattle.njs_interp.specs.Hosts.{behind_own}
-use Rattle.njs_interp.specs.Calling.{filled, own_slots}
+use Rattle.njs_interp.specs.Calling.{CodesOf, filled, own_slots}
+use Rattle.njs_interp.specs.Entries.{module_by}
 use Rattle.njs_interp.proofs.Parameters.{unbound_filled}
+use Rattle.njs_interp.proofs.Scripts.{script_there}
 
 each_fine : (env : Names) (unit : ℕ) (names : Around) (ms : List Item_means) (cs : List CodedPart) → Each (ItemTied env unit names) ms cs → EachFine env unit names ms
 each_fine env unit names [] [] t = tt
@@ -99,3 +102,31 @@ module _ (scripts : List Script) (outermost : Bindings) (unit : ℕ) (script : S
         (length s.scopes) (with_scope (record { 0 = 0 }) variables s) refl
         (subst (λ a. Scoped a (with_scope (record { 0 = 0 }) variables s).scopes (length s.scopes)) (sym around_is) (scoped_inner (outermost ∷ []) (assignable names) (record { 0 = 0 }) variables s (bindings_of_unbound names) scoped))
         (fares_scope env (record { 0 = 0 }) variables s good).good refl
+
+-- ---- by the codes of a program
+
+-- a run of the code of a module's body, and what it means
+pub record ModuleRuns (scripts : List Script) (env : Names) (calls : Calls) (unit : ℕ) (code : Code) (s : State) : Type 0 where
+  pub variables : List Variable
+  pub outcome : Outcome PlainValue
+  pub meant : module_by scripts calls unit s ≡ outcome
+  pub fares : Fared env s outcome
+  pub filled_by : (args : List PlainValue) → map (λ (v : Variable). v.value) variables ≡ filled (Simple Undefined) (own_slots code.body.slots) code.body.params args
+  pub runs : Runs (Good env) (record { calls = calls; unit = unit; this = Simple Undefined; args = [] }) code.body.ops outcome code.body.ops (starting (length s.scopes)) (with_scope (record { 0 = 0 }) variables s)
+
+pub module_runs : (codes : List Code) (k : Known) (program : Program) (of : CodesOf codes k program) (unit : ℕ) (code : Code) → slice_get codes unit ≡ Some code → (calls : Calls) → CallsFare k.around calls
+    → (s : State) → Scoped (of.outermost ∷ []) s.scopes 0 → Good k.around s → ModuleRuns of.scripts k.around calls unit code s
+module_runs codes k program of unit code here calls fare s scoped good =
+    let script = script_there codes k program of unit code here in
+    let env : Names = names_in of.scripts of.outermost in
+    let fare' : CallsFare env calls = subst (λ (env : Names). CallsFare env calls) of.around fare in
+    let good' : Good env s = subst (λ (env : Names). Good env s) of.around good in
+    subst (λ (env : Names). ModuleRuns of.scripts env calls unit code s) (sym of.around)
+    (subst (λ (c : Code). ModuleRuns of.scripts env calls unit c s) script.2 (record {
+      variables = map unbound (module_names script.0);
+      outcome = run_module calls unit script.0 s;
+      meant = ap (λ found. option_map_or (λ (script : Script). run_module calls unit script s) found (Gives (Simple Undefined) s)) script.1;
+      fares = module_fares of.scripts of.outermost unit script.0 script.1 calls fare' s scoped good';
+      filled_by = body_filled of.scripts of.outermost unit script.0 script.1;
+      runs = body_runs of.scripts of.outermost unit script.0 script.1 calls fare' s scoped good';
+    }))

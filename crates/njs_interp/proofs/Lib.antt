@@ -38,6 +38,7 @@ pub mod CallScopes
 pub mod Scripts
 pub mod Constructing
 pub mod Bodies
+pub mod Invoking
 pub mod Turning
 pub mod Running
 pub mod Lifting

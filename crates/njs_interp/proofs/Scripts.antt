@@ -79,7 +79,7 @@ module _ (codes : List Code) (k : Known) (program : Program) (is : CodesOf codes
     abbrev compiled : Script → Code
     compiled script = code_of script is.outermost
 
-    script_there : (script : Script) × (slice_get is.scripts unit ≡ Some script) × (compiled script ≡ code)
+    pub script_there : (script : Script) × (slice_get is.scripts unit ≡ Some script) × (compiled script ≡ code)
     script_there = map-at compiled is.scripts unit code (ap (λ cs. slice_get cs unit) (sym is.codes_are) ∙ there)
 
     functions_are : functions_of program unit ≡ means.functions_of script_there.0

@@ -19,7 +19,7 @@ use Rattle.njs_code.specs.declared.code.Code.{Code}
 use Rattle.njs_code.specs.declared.code.FunctionCode.{FunctionCode}
 use Rattle.njs_meaning.specs.Primitives.{Undefined}
 use Rattle.njs_meaning.specs.Values.{PlainValue, Simple, ObjectAt}
-use Rattle.njs_meaning.specs.PlainHeap.{PlainObject, Variable}
+use Rattle.njs_meaning.specs.PlainHeap.{PlainObject, PlainInner, Variable}
 use Rattle.njs_meaning.specs.Conversions.{is_callable}
 use Rattle.njs_meaning.specs.State.{State, Outcome}
 use Rattle.njs_meaning.specs.Running.{Calls}
@@ -129,16 +129,19 @@ refusal (way.Call this) = NotFunction
 refusal way.New = NotConstructor
 
 -- a call of an object, or `new`, by what it is beside its properties
+abbrev pub entered_by : Program → Calls → List (List ℕ) → Way → ℕ → PlainInner → List PlainValue → State → Outcome PlainValue
+entered_by program calls texts (way.Call this) f inner args s = call_inner program calls inner (content texts this) args s
+entered_by program calls texts way.New f inner args s = construct_inner program calls f inner args s
+
 abbrev pub entered : Program → Calls → List (List ℕ) → Way → ℕ → List PlainValue → State → Outcome PlainValue
-entered program calls texts (way.Call this) f args s = call_inner program calls (inner_at s.objects f) (content texts this) args s
-entered program calls texts way.New f args s = construct_inner program calls f (inner_at s.objects f) args s
+entered program calls texts way f args s = entered_by program calls texts way f (inner_at s.objects f) args s
 
 -- ---- runs that are entered
 
 -- what a call leaves, whatever comes of it: the host's replies and machines that fit, no fewer objects, scopes and texts, and no
 -- more ticks
-pub record Entered (rows : Row → Type 0) (counts : ℕ → ℕ → Option (List ℕ)) (agreed agrees : Known → Type 0) (zones : ℕ) (old new : Heap) (r : Result Value Stop) (ticks left count counted : ℕ) : Type 0 where
-  pub agreed : (k : Known) → agrees k → agreed k
+pub record Entered (rows : Row → Type 0) (counts : ℕ → ℕ → Option (List ℕ)) (before after : Known → Type 0) (zones : ℕ) (old new : Heap) (r : Result Value Stop) (ticks left count counted : ℕ) : Type 0 where
+  pub agrees : (k : Known) → after k → before k
   pub fits : FitsProgram rows zones counts new
   pub grows : Grows old new
   pub value : FitsAnswer (FitsValue (sizes new)) (sizes new) r

@@ -124,7 +124,7 @@ fn enter_bound<C: Runner<L>, L: Ledger>(
 }
 
 // Calls a built-in function, or makes an object by it.
-fn enter_built_in<H: Host, L: Ledger, A: Again<H, Steps<L>>>(
+pub(crate) fn enter_built_in<H: Host, L: Ledger, A: Again<H, Steps<L>>>(
     alloc: Global,
     row: Row,
     way: Way,

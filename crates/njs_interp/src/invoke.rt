@@ -28,9 +28,9 @@ use std::sync::ledger::Ledger;
 
 // A run that is entered again by a closure, over the codes of its modules.
 #[derive(Drop)]
-struct ByClosure<'a, F> {
-    codes: &'a [ValidCode],
-    call: F,
+pub(crate) struct ByClosure<'a, F> {
+    pub codes: &'a [ValidCode],
+    pub call: F,
 }
 
 impl<

@@ -37,7 +37,7 @@ fn own_slots(function: &FunctionCode) -> u32
 }
 
 // The code of a module.
-fn code_at<'a>(codes: &'a [ValidCode], unit: u32) -> &'a ValidCode
+pub(crate) fn code_at<'a>(codes: &'a [ValidCode], unit: u32) -> &'a ValidCode
     requires { (code : PlainCode) × (slice_get codes.now unit ≡ Some code) }
     ensures { slice_get codes.now unit ≡ Some result.now }
 {

@@ -97,7 +97,7 @@ returns-clause-told g c = λ k. record {
       let args : List Value = c.args.call.now.args.now in
       let scope = c.in-Ok.scope in
       let holds = g.met.C.Runner.holds_of caller k h s stands in
-      let heap = g.met.C.Runner.heap_is caller k h s holds in
+      let heap = g.C.Runner.heap_is caller k h s holds in
       let made : mid ≡ record h { scopes = h.scopes ++ scope_filled c.args.parent (own_slots code.slots) code.params args ∷ [] } =
       c.in-Ok.ensures.filled ∙ ap (λ n. record h { scopes = h.scopes ++ scope_filled c.args.parent n code.params args ∷ [] }) c.own_slots-slots.ensures
       in

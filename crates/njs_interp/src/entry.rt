@@ -1,0 +1,189 @@
+// Runs that a host begins.
+ghost use Rattle.std.specs.Prelude.{◌≡◌, ◌≤◌, ◌<◌, [], ◌∷◌, ℕ, List, length, map};
+ghost use Rattle.std.specs.List.{AllByRecursion};
+ghost use Rattle.njs_shared.specs.Heap.{sizes};
+ghost use Rattle.njs_shared.specs.Fits.{FitsValue};
+ghost use Rattle.njs_clone.specs.Content.{content};
+ghost use Rattle.njs_meaning.specs.Errors.{first_count};
+ghost use Rattle.njs_meaning.specs.Functions.{Program, calls_at};
+ghost use Rattle.njs_meaning.specs.Replies.{Known};
+ghost use Rattle.njs_meaning.specs.Running.{Calls};
+ghost use Rattle.njs_convert.specs.Tells.{Means, ShowsValue, Grows, FitsAnswer};
+ghost use Rattle.njs_simul.specs.Fits.{Scoped};
+ghost use Rattle.njs_interp.specs.Grown.{Widens};
+ghost use Rattle.njs_interp.specs.Hosts.{counts_of, FitsProgram};
+ghost use Rattle.njs_interp.specs.Standing.{Holds, Stands, FitsWay, by_way};
+ghost use Rattle.njs_interp.specs.Calling.{CodesOf, IsProgram, Entered};
+ghost use Rattle.njs_interp.specs.Entries.{StandsIn, module_by, entry_by, BodyThere, FitsEntry, answer_of};
+
+use crate::enter::enter_built_in;
+use crate::invoke::{ByClosure, invoke};
+use crate::own::{Again, Own};
+use crate::script::{code_at, run_in_scope};
+use crate::{Fuel, Host, InCall, Runner, Way};
+use njs_clone::Machine;
+use njs_code::{ValidCode, valid_code_keeps_its_rule};
+use njs_convert::{Caller, Stop};
+use njs_text::Steps;
+use njs_value::{Row, ScopeId, Value};
+use std::alloc::Global;
+use std::sync::ledger::Ledger;
+
+// How many calls may be active at a time.
+const MOST_CALLS: u32 = 256;
+
+const OUTERMOST: ScopeId = ScopeId(0);
+
+/// What is run.
+#[derive(Clone, Copy)]
+pub enum Entry<'a> {
+    /// The body of a module, by its number (ECMA-262 5.1 §10.4.1).
+    Body(u32),
+    Call {
+        callee: Value,
+        this: Value,
+        args: &'a [Value],
+    },
+    /// A built-in function, by its row in the table of built-in functions.
+    Row {
+        row: Row,
+        this: Value,
+        args: &'a [Value],
+    },
+}
+
+/// How a run ended.
+#[derive(Clone, Copy, Debug, PartialEq, Eq)]
+pub enum Outcome {
+    Normal(Value),
+    Throw(Value),
+    /// The ticks were spent.
+    Fuel,
+    NoMemory,
+}
+
+// Runs the body of a module in a new scope below the outermost one.
+fn run_body<C: Runner<L>, L: Ledger>(
+    alloc: Global,
+    codes: &[ValidCode],
+    unit: u32,
+    caller: &mut C,
+    machine: &mut Machine<'_>,
+    steps: &mut Steps<L>,
+) -> Result<Value, Stop>
+    requires there { BodyThere codes.now machine.old.scopes unit }
+    requires counts { (C.lent caller.old).counts ≡ counts_of codes.now }
+    requires may { C.may_call caller.old }
+    requires fits { C.fits caller.old machine.old }
+    requires first { first_count ≤ length machine.old.objects }
+    ensures told { (calls : Calls) (k : Known) (program : Program) (of : CodesOf codes.now k program) → C.follows caller.old k calls → C.agrees caller.new k → Means (λ s. C.stands caller.old k machine.old s × Scoped (of.outermost ∷ []) s.scopes 0) (C.holds caller.new k machine.new) (C.stopped caller.new k) machine.new.texts (ShowsValue machine.new.texts) result (module_by of.scripts calls unit) }
+    ensures value { FitsAnswer (FitsValue (sizes machine.new)) (sizes machine.new) result }
+    ensures kept { (calls : Calls) (k : Known) → C.follows caller.old k calls → C.follows caller.new k calls }
+    ensures agrees { (k : Known) → C.agrees caller.new k → C.agrees caller.old k }
+    ensures may { C.may_call caller.new }
+    ensures fits { C.fits caller.new machine.new }
+    ensures same { C.lent caller.new ≡ C.lent caller.old }
+    ensures spent { C.ticks_of caller.new ≤ C.ticks_of caller.old }
+    ensures widens { Widens machine.old machine.new }
+    ensures steps { steps.old ≤ steps.new }
+{
+    valid_code_keeps_its_rule();
+    let code = code_at(codes, unit).code();
+    let call = InCall {
+        unit,
+        this: Value::Undefined,
+        args: &[],
+    };
+    run_in_scope(
+        alloc,
+        code.functions.as_slice(),
+        &code.body,
+        &call,
+        OUTERMOST,
+        caller,
+        machine,
+        steps,
+    )
+}
+
+// Runs an entry under the interpreter's own caller.
+fn enter_entry<H: Host, L: Ledger, A: Again<H, Steps<L>>>(
+    alloc: Global,
+    codes: &[ValidCode],
+    entry: Entry<'_>,
+    own: &mut Own<'_, H, A>,
+    machine: &mut Machine<'_>,
+    steps: &mut Steps<L>,
+) -> Result<Value, Stop>
+    requires entry { FitsEntry H.rows codes.now machine.old entry }
+    requires counts { A.counts own.old.run ≡ counts_of codes.now }
+    requires may { A.may own.old.run }
+    requires fits { FitsProgram H.rows (H.zones own.old.host.now) (A.counts own.old.run) machine.old }
+    ensures told { (calls : Calls) (k : Known) (program : Program) (is : IsProgram H.means H.constructs codes.now k program) → A.follows own.old.run k calls → H.agrees own.new.host.now k → Means (StandsIn (H.keeps own.old.host.now) own.old.fuel.now.left k is.of_codes.outermost machine.old) (Holds (H.keeps own.new.host.now) own.new.fuel.now.left k machine.new) (H.halted own.new.host.now k) machine.new.texts (ShowsValue machine.new.texts) result (entry_by program is.of_codes.scripts calls machine.old.texts entry.entry) }
+    ensures agrees { (k : Known) → H.agrees own.new.host.now k → H.agrees own.old.host.now k }
+    ensures fits { FitsProgram H.rows (H.zones own.new.host.now) (A.counts own.new.run) machine.new }
+    ensures same { record { names = own.new.fuel.ghost_name ∷ own.new.host.ghost_name ∷ []; counts = A.counts own.new.run } ≡ record { names = own.old.fuel.ghost_name ∷ own.old.host.ghost_name ∷ []; counts = A.counts own.old.run } }
+    ensures value { FitsAnswer (FitsValue (sizes machine.new)) (sizes machine.new) result }
+    ensures spent { own.new.fuel.now.left ≤ own.old.fuel.now.left }
+    ensures grows { Grows machine.old machine.new }
+    ensures steps { steps.old ≤ steps.new }
+{
+    match entry {
+        Entry::Body(unit) => run_body(alloc, codes, unit, own, machine, steps),
+        Entry::Call { callee, this, args } => own.call(alloc, machine, callee, this, args, steps),
+        Entry::Row { row, this, args } => {
+            enter_built_in(alloc, row, Way::Call(this), args, own, machine, steps)
+        }
+    }
+}
+
+fn outcome_of(answer: Result<Value, Stop>) -> Outcome
+    ensures { answer_of result ≡ answer }
+{
+    match answer {
+        Ok(value) => Outcome::Normal(value),
+        Err(Stop::Throw(value)) => Outcome::Throw(value),
+        Err(Stop::Fuel) => Outcome::Fuel,
+        Err(Stop::NoMemory) => Outcome::NoMemory,
+    }
+}
+
+/// Runs the body of a module, a call, or a built-in function. The codes are those of the scripts of a program, and at most 256
+/// calls are active at a time.
+pub fn run<H: Host, L: Ledger>(
+    alloc: Global,
+    machine: &mut Machine<'_>,
+    codes: &[ValidCode],
+    entry: Entry<'_>,
+    fuel: &mut Fuel,
+    host: &mut H,
+    steps: &mut Steps<L>,
+) -> Outcome
+    requires fits { FitsProgram H.rows (H.zones host.old) (counts_of codes.now) machine.old }
+    requires entry { FitsEntry H.rows codes.now machine.old entry }
+    ensures told { (k : Known) (program : Program) (is : IsProgram H.means H.constructs codes.now k program) → H.agrees host.new k → Means (StandsIn (H.keeps host.old) fuel.old.left k is.of_codes.outermost machine.old) (StandsIn (H.keeps host.new) fuel.new.left k is.of_codes.outermost machine.new) (H.halted host.new k) machine.new.texts (ShowsValue machine.new.texts) (answer_of result) (entry_by program is.of_codes.scripts (calls_at program 256) machine.old.texts entry.entry) }
+    ensures entered { Entered H.rows (counts_of codes.now) (H.agrees host.old) (H.agrees host.new) (H.zones host.new) machine.old machine.new (answer_of result) fuel.old.left fuel.new.left steps.old steps.new }
+{
+    let call = |machine: &mut Machine<'_>, fuel: &mut Fuel, host: &mut H, callee: Value, way: Way, args: &[Value], steps: &mut Steps<
+        L,
+    >| -> Result<Value, Stop>
+        requires fits { FitsProgram H.rows (H.zones host.old) (counts_of codes.now) machine.old }
+        requires callee { FitsValue (sizes machine.old) callee }
+        requires way { FitsWay (sizes machine.old) way }
+        requires args { AllByRecursion (FitsValue (sizes machine.old)) args.now }
+        ensures told { (k : Known) (program : Program) → IsProgram H.means H.constructs codes.entry.now k program → H.agrees host.new k → Means (Stands (H.keeps host.old) fuel.old.left k machine.old) (Stands (H.keeps host.new) fuel.new.left k machine.new) (H.halted host.new k) machine.new.texts (ShowsValue machine.new.texts) result (by_way (calls_at program 256) machine.old.texts way (content machine.old.texts callee) (map (content machine.old.texts) args.now)) }
+        ensures entered { Entered H.rows (counts_of codes.entry.now) (H.agrees host.old) (H.agrees host.new) (H.zones host.new) machine.old machine.new result fuel.old.left fuel.new.left steps.old steps.new }
+    {
+        invoke(
+            alloc, codes, machine, fuel, host, callee, way, args, MOST_CALLS, steps,
+        )
+    };
+    let mut own = Own {
+        fuel,
+        host,
+        run: ByClosure { codes, call },
+    };
+    outcome_of(enter_entry(
+        alloc, codes, entry, &mut own, machine, steps,
+    ))
+}
