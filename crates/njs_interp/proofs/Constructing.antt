@@ -7,6 +7,7 @@ use Rattle.njs_value.specs.declared.ObjId.{ObjId}
 use Rattle.njs_value.specs.declared.Class.TheVariants as class
 use Rattle.njs_value.specs.declared.Row.{Row}
 use Rattle.njs_value.specs.declared.Value.{Value}
+use Rattle.njs_value.specs.declared.Value.TheVariants as value
 use Rattle.njs_shared.specs.declared.object.Inner.{Inner}
 use Rattle.njs_shared.specs.declared.object.Inner.TheVariants as inner
 use Rattle.njs_shared.specs.Heap.{Heap, HeapObject}
@@ -34,10 +35,19 @@ made_state h mid f s objects made =
     ap (λ os. record s { objects = os }) made
     ∙ ap (λ os. record s { objects = os ++ new_from (get (Simple Undefined) prototype_name os f) ∷ [] }) (sym objects)
 
+-- what reads no object has the prototype of all objects
+pub other_from : (texts : List (List ℕ)) (v : Value) → ((o : ObjId) → v ≡ value.Obj o → ⊥) → prototype_from (content texts v) ≡ record { 0 = 0 }
+other_from texts value.Undefined other = refl
+other_from texts value.Null other = refl
+other_from texts (value.Bool b) other = refl
+other_from texts (value.Num n) other = refl
+other_from texts (value.Str t) other = refl
+other_from texts (value.Obj o) other = absurd (other o refl)
+
 -- it is the one that a heap makes
-pub new_plain : (texts : List (List ℕ)) (objects : List PlainObject) (up : ObjId) (v : PlainValue) → up ≡ prototype_from v
+pub new_plain : (objects : List PlainObject) (up : ObjId) (v : PlainValue) → up ≡ prototype_from v
     → with_new_object length_value class.Object (Some up) Plain objects ≡ objects ++ new_from v ∷ []
-new_plain texts objects up v is = ap (λ (up : ObjId). objects ++ record { class = class.Object; prototype = Some up; extensible = true; props = []; inner = Plain } ∷ []) is
+new_plain objects up v is = ap (λ (up : ObjId). objects ++ record { class = class.Object; prototype = Some up; extensible = true; props = []; inner = Plain } ∷ []) is
 
 -- the object, or what was returned in its place
 pub made_tells : (holds stopped : State → Type 0) (texts : List (List ℕ)) (made : ObjId) (n : ℕ) (v w : Value) (o : Outcome PlainValue) → made.0 ≡ n → content texts w ≡ or_made made.0 (content texts v)

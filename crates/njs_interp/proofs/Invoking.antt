@@ -23,7 +23,7 @@ use Rattle.njs_meaning.specs.State.{State, Outcome, Gives, Throws, Spent, Asks}
 use Rattle.njs_meaning.specs.Functions.{Program, inner_at, is_constructor, call_inner, construct_inner, with_further, calls_at}
 use Rattle.njs_convert.specs.declared.stop.Stop.{Stop}
 use Rattle.njs_convert.specs.declared.stop.Stop.TheVariants.{Throw, Fuel, NoMemory}
-use Rattle.njs_convert.specs.Tells.{Tells, ShowsValue, Extends, ThrowsError}
+use Rattle.njs_convert.specs.Tells.{Tells, ShowsValue, Extends, ThrowsError, Grows}
 use Rattle.njs_convert.proofs.Thrown.{thrown}
 use Rattle.njs_simul.specs.Asking.{Holding, CallsAlwaysEnd}
 use Rattle.njs_simul.specs.Fits.{Names, Good, Fared, CallsFare}
@@ -31,11 +31,13 @@ use Rattle.njs_simul.proofs.Asking.{keeps_everywhere}
 use Rattle.njs_simul.proofs.Program.{program_means}
 use Rattle.njs_interp.specs.declared.own.Way.{Way}
 use Rattle.njs_interp.specs.declared.own.Way.TheVariants as way
+use Rattle.njs_interp.specs.Grown.{Widens}
 use Rattle.njs_interp.specs.Hosts.{Answers}
 use Rattle.njs_interp.specs.Owned.{stands_extends}
 use Rattle.njs_interp.specs.Standing.{Holds, Stands, by_way, CallsKeep}
 use Rattle.njs_interp.specs.Calling.{CodesOf, IsProgram, script_by, row_by, bound_way, can_construct, may_enter, refusal, entered_by, entered}
 use Rattle.njs_interp.proofs.Alone.{message_same}
+use Rattle.njs_interp.proofs.Kept.{Widens-objects, Widens-scopes}
 
 -- ---- by what an object is beside its properties
 
@@ -174,3 +176,15 @@ module _ (means : Answers) (constructs : Row → Bool) (codes : List Code) (k : 
       (answers calls (λ f this args s before. keep.call f this args s before) (λ f args s before. keep.construct f args s before) row this args made s before)) n
       in
       record { call = λ f this args s before. ends.call f this args s before; construct = λ f args s before. ends.construct f args s before }
+
+-- ---- heaps
+
+pub widens_grows : (h k : Heap) → Widens h k → Grows h k
+widens_grows h k widens = record {
+  objects = Widens-objects h k widens;
+  scopes = Widens-scopes h k widens;
+  shapes = λ at scope there. let same = widens.scopes at scope there in record { now = same.now; there = same.there; parent = same.parent; slots = same.slots };
+  inner = λ at object there. let same = widens.objects at object there in record { now = same.now; there = same.there; inner = same.inner };
+  more = widens.more;
+  texts = widens.texts;
+}

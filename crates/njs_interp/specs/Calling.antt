@@ -29,7 +29,7 @@ use Rattle.njs_meaning.specs.Scopes.{with_scope}
 use Rattle.njs_meaning.specs.Functions.{Function, Program, call_script, construct_script, call_inner, construct_inner, inner_at, is_constructor}
 use Rattle.njs_meaning.specs.Meaning.{functions_of}
 use Rattle.njs_convert.specs.declared.stop.Stop.{Stop}
-use Rattle.njs_convert.specs.Tells.{Tells, ShowsValue, Grows, FitsAnswer}
+use Rattle.njs_convert.specs.Tells.{Tells, ShowsValue, Grows, FitsAnswer, Lent}
 use Rattle.njs_simul.specs.Stacks.{Frame}
 use Rattle.njs_simul.specs.Compiled.{code_of}
 use Rattle.njs_simul.specs.Fits.{Good}
@@ -137,6 +137,10 @@ abbrev pub entered : Program → Calls → List (List ℕ) → Way → ℕ → L
 entered program calls texts way f args s = entered_by program calls texts way f (inner_at s.objects f) args s
 
 -- ---- runs that are entered
+
+-- what no call changes of the interpreter's own caller
+abbrev pub lent_by : (fuel host : ℕ) → (ℕ → ℕ → Option (List ℕ)) → Lent
+lent_by fuel host counts = record { names = fuel ∷ host ∷ []; counts = counts }
 
 -- what a call leaves, whatever comes of it: the host's replies and machines that fit, no fewer objects, scopes and texts, and no
 -- more ticks

@@ -20,3 +20,4 @@ pub mod Owned
 pub mod Calling
 pub mod Stepping
 pub mod Turning
+pub mod Entries

@@ -1,5 +1,5 @@
 // Objects that are made by `new` (ECMA-262 5.1 §11.2.2, §13.2.2).
-ghost use Rattle.std.specs.Prelude.{◌≡◌, ◌≤◌, ◌<◌, [], ◌∷◌, ◌++◌, ℕ, List, length, map, IfOk, OnOk};
+ghost use Rattle.std.specs.Prelude.{◌≡◌, ◌≤◌, ◌<◌, ◌+◌, [], ◌∷◌, ◌++◌, ℕ, List, length, map, IfOk, OnOk};
 ghost use Rattle.std.specs.List.{AllByRecursion};
 ghost use Rattle.njs_shared.specs.Heap.{Sizes, sizes};
 ghost use Rattle.njs_shared.specs.Fits.{FitsValue};
@@ -39,7 +39,8 @@ pub(crate) fn is_constructor<H: Host>(machine: &Machine<'_>, object: ObjId) -> b
     let mut at = object;
     for step in 0..machine.sizes().0 {
         match &machine.object(at).inner {
-            Inner::Plain | Inner::ZoneNumber(_) => return false,
+            Inner::Plain => return false,
+            Inner::ZoneNumber(_) => return false,
             Inner::Script { .. } => return true,
             Inner::BuiltIn(row) => return H::can_construct(*row),
             Inner::Bound { target, .. } => at = *target,
@@ -58,9 +59,7 @@ fn prototype_of(machine: &Machine<'_>, function: ObjId) -> ObjId
     operations_go_by_content();
     match machine.get(function, &prototype_text()) {
         Value::Obj(prototype) => prototype,
-        Value::Undefined | Value::Null | Value::Bool(_) | Value::Num(_) | Value::Str(_) => {
-            ObjId(Prototype::Object.place())
-        }
+        _ => ObjId(Prototype::Object.place()),
     }
 }
 
@@ -81,7 +80,10 @@ fn new_object_of<L: Ledger>(
 {
     operations_go_by_content();
     let up = prototype_of(machine, function);
-    machine.new_object(alloc, Class::Object, Some(up), Inner::Plain, steps)
+    match machine.new_object(alloc, Class::Object, Some(up), Inner::Plain, steps) {
+        Ok(object) => Ok(object),
+        Err(_) => Err(NoMemory),
+    }
 }
 
 // An object that was returned takes the place of the one that was made.

@@ -14,7 +14,7 @@ ghost use Rattle.njs_simul.specs.Fits.{Scoped};
 ghost use Rattle.njs_interp.specs.Grown.{Widens};
 ghost use Rattle.njs_interp.specs.Hosts.{counts_of, FitsProgram};
 ghost use Rattle.njs_interp.specs.Standing.{Holds, Stands, FitsWay, by_way};
-ghost use Rattle.njs_interp.specs.Calling.{CodesOf, IsProgram, StandsThere, script_by, row_by, bound_way, refusal, entered};
+ghost use Rattle.njs_interp.specs.Calling.{CodesOf, IsProgram, StandsThere, script_by, row_by, bound_way, refusal, entered, lent_by};
 
 use crate::construct::construct_script;
 use crate::own::{Again, Own};
@@ -141,7 +141,7 @@ pub(crate) fn enter_built_in<H: Host, L: Ledger, A: Again<H, Steps<L>>>(
     ensures told { (calls : Calls) (k : Known) → A.follows own.old.run k calls → H.agrees own.new.host.now k → Means (Stands (H.keeps own.old.host.now) own.old.fuel.now.left k machine.old) (Stands (H.keeps own.new.host.now) own.new.fuel.now.left k machine.new) (H.halted own.new.host.now k) machine.new.texts (ShowsValue machine.new.texts) result (row_by H.means calls machine.old.texts way row (map (content machine.old.texts) args.now)) }
     ensures agrees { (k : Known) → H.agrees own.new.host.now k → H.agrees own.old.host.now k }
     ensures fits { FitsProgram H.rows (H.zones own.new.host.now) (A.counts own.new.run) machine.new }
-    ensures same { record { names = own.new.fuel.ghost_name ∷ own.new.host.ghost_name ∷ []; counts = A.counts own.new.run } ≡ record { names = own.old.fuel.ghost_name ∷ own.old.host.ghost_name ∷ []; counts = A.counts own.old.run } }
+    ensures same { lent_by own.new.fuel.ghost_name own.new.host.ghost_name (A.counts own.new.run) ≡ lent_by own.old.fuel.ghost_name own.old.host.ghost_name (A.counts own.old.run) }
     ensures value { FitsAnswer (FitsValue (sizes machine.new)) (sizes machine.new) result }
     ensures spent { own.new.fuel.now.left ≤ own.old.fuel.now.left }
     ensures grows { Grows machine.old machine.new }
@@ -210,7 +210,7 @@ pub(crate) fn enter<H: Host, L: Ledger, A: Again<H, Steps<L>>>(
     ensures told { (calls : Calls) (k : Known) (program : Program) → IsProgram H.means H.constructs codes.now k program → A.follows own.old.run k calls → H.agrees own.new.host.now k → Means (Stands (H.keeps own.old.host.now) own.old.fuel.now.left k machine.old) (Holds (H.keeps own.new.host.now) own.new.fuel.now.left k machine.new) (H.halted own.new.host.now k) machine.new.texts (ShowsValue machine.new.texts) result (entered program calls machine.old.texts way object.0 (map (content machine.old.texts) args.now)) }
     ensures agrees { (k : Known) → H.agrees own.new.host.now k → H.agrees own.old.host.now k }
     ensures fits { FitsProgram H.rows (H.zones own.new.host.now) (A.counts own.new.run) machine.new }
-    ensures same { record { names = own.new.fuel.ghost_name ∷ own.new.host.ghost_name ∷ []; counts = A.counts own.new.run } ≡ record { names = own.old.fuel.ghost_name ∷ own.old.host.ghost_name ∷ []; counts = A.counts own.old.run } }
+    ensures same { lent_by own.new.fuel.ghost_name own.new.host.ghost_name (A.counts own.new.run) ≡ lent_by own.old.fuel.ghost_name own.old.host.ghost_name (A.counts own.old.run) }
     ensures value { FitsAnswer (FitsValue (sizes machine.new)) (sizes machine.new) result }
     ensures spent { own.new.fuel.now.left ≤ own.old.fuel.now.left }
     ensures grows { Grows machine.old machine.new }

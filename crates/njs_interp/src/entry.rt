@@ -13,7 +13,7 @@ ghost use Rattle.njs_simul.specs.Fits.{Scoped};
 ghost use Rattle.njs_interp.specs.Grown.{Widens};
 ghost use Rattle.njs_interp.specs.Hosts.{counts_of, FitsProgram};
 ghost use Rattle.njs_interp.specs.Standing.{Holds, Stands, FitsWay, by_way};
-ghost use Rattle.njs_interp.specs.Calling.{CodesOf, IsProgram, Entered};
+ghost use Rattle.njs_interp.specs.Calling.{CodesOf, IsProgram, Entered, lent_by};
 ghost use Rattle.njs_interp.specs.Entries.{StandsIn, module_by, entry_by, BodyThere, FitsEntry, answer_of};
 
 use crate::enter::enter_built_in;
@@ -122,7 +122,7 @@ fn enter_entry<H: Host, L: Ledger, A: Again<H, Steps<L>>>(
     ensures told { (calls : Calls) (k : Known) (program : Program) (is : IsProgram H.means H.constructs codes.now k program) → A.follows own.old.run k calls → H.agrees own.new.host.now k → Means (StandsIn (H.keeps own.old.host.now) own.old.fuel.now.left k is.of_codes.outermost machine.old) (Holds (H.keeps own.new.host.now) own.new.fuel.now.left k machine.new) (H.halted own.new.host.now k) machine.new.texts (ShowsValue machine.new.texts) result (entry_by program is.of_codes.scripts calls machine.old.texts entry.entry) }
     ensures agrees { (k : Known) → H.agrees own.new.host.now k → H.agrees own.old.host.now k }
     ensures fits { FitsProgram H.rows (H.zones own.new.host.now) (A.counts own.new.run) machine.new }
-    ensures same { record { names = own.new.fuel.ghost_name ∷ own.new.host.ghost_name ∷ []; counts = A.counts own.new.run } ≡ record { names = own.old.fuel.ghost_name ∷ own.old.host.ghost_name ∷ []; counts = A.counts own.old.run } }
+    ensures same { lent_by own.new.fuel.ghost_name own.new.host.ghost_name (A.counts own.new.run) ≡ lent_by own.old.fuel.ghost_name own.old.host.ghost_name (A.counts own.old.run) }
     ensures value { FitsAnswer (FitsValue (sizes machine.new)) (sizes machine.new) result }
     ensures spent { own.new.fuel.now.left ≤ own.old.fuel.now.left }
     ensures grows { Grows machine.old machine.new }

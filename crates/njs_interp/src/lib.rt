@@ -8,6 +8,7 @@ mod at;
 mod construct;
 mod endings;
 mod enter;
+mod entry;
 mod functions;
 mod host;
 mod in_call;
@@ -34,6 +35,7 @@ mod taking;
 mod turn;
 
 pub use at::At;
+pub use entry::{Entry, Outcome, run};
 pub use host::{Fuel, Host};
 pub use in_call::InCall;
 pub use lists::More;
