@@ -14,15 +14,16 @@ ghost use Rattle.njs_simul.specs.Fits.{Scoped};
 ghost use Rattle.njs_interp.specs.Grown.{Widens};
 ghost use Rattle.njs_interp.specs.Hosts.{counts_of, FitsProgram};
 ghost use Rattle.njs_interp.specs.Standing.{Holds, Stands, FitsWay, by_way};
-ghost use Rattle.njs_interp.specs.Calling.{CodesOf, IsProgram, StandsThere, script_by, row_by, bound_way, refusal, entered, lent_by};
+ghost use Rattle.njs_interp.specs.Calling.{CodesOf, IsProgram, StandsThere, script_by, row_by, bound_way, refusal, entered, IsEntered, lent_by};
 
-use crate::construct::construct_script;
+use crate::construct::{construct_script, is_constructor};
 use crate::own::{Again, Own};
 use crate::script::call_script;
 use crate::{Host, InCall, Runner, Way};
 use njs_clone::Machine;
 use njs_code::ValidCode;
 use njs_convert::{Caller, Stop, throw};
+use njs_members::is_callable;
 use njs_shared::Inner;
 use njs_text::{NoMemory, Steps};
 use njs_value::{Cause, ObjId, Row, ScopeId, Value};
@@ -256,5 +257,24 @@ pub(crate) fn enter<H: Host, L: Ledger, A: Again<H, Steps<L>>>(
             }
         }
         Inner::Plain | Inner::ZoneNumber(_) => Err(throw(alloc, machine, refusal(way), steps)),
+    }
+}
+
+/// The object that a value is, if it may be called so. It takes no memory.
+pub(crate) fn object_to_enter<H: Host>(machine: &Machine<'_>, callee: Value, way: Way) -> Option<ObjId>
+    requires { FitsValue (sizes machine.now) callee }
+    ensures { (program : Program) → program.constructs ≡ H.constructs → IsEntered program machine.now callee way result }
+{
+    let Value::Obj(object) = callee else {
+        return None;
+    };
+    let may = match way {
+        Way::Call(_) => is_callable(machine, callee),
+        Way::New => is_constructor::<H>(machine, object),
+    };
+    if may {
+        Some(object)
+    } else {
+        None
     }
 }

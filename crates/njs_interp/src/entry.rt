@@ -5,22 +5,21 @@ ghost use Rattle.njs_shared.specs.Heap.{sizes};
 ghost use Rattle.njs_shared.specs.Fits.{FitsValue};
 ghost use Rattle.njs_clone.specs.Content.{content};
 ghost use Rattle.njs_meaning.specs.Errors.{first_count};
-ghost use Rattle.njs_meaning.specs.Functions.{Program, calls_at};
+ghost use Rattle.njs_meaning.specs.Functions.{Program};
 ghost use Rattle.njs_meaning.specs.Replies.{Known};
 ghost use Rattle.njs_meaning.specs.Running.{Calls};
 ghost use Rattle.njs_convert.specs.Tells.{Means, ShowsValue, Grows, FitsAnswer};
 ghost use Rattle.njs_simul.specs.Fits.{Scoped};
 ghost use Rattle.njs_interp.specs.Grown.{Widens};
 ghost use Rattle.njs_interp.specs.Hosts.{counts_of, FitsProgram};
-ghost use Rattle.njs_interp.specs.Standing.{Holds, Stands, FitsWay, by_way};
-ghost use Rattle.njs_interp.specs.Calling.{CodesOf, IsProgram, Entered, lent_by};
+ghost use Rattle.njs_interp.specs.Standing.{Holds};
+ghost use Rattle.njs_interp.specs.Calling.{CodesOf, IsProgram, lent_by};
 ghost use Rattle.njs_interp.specs.Entries.{StandsIn, module_by, entry_by, BodyThere, FitsEntry, answer_of};
 
 use crate::enter::enter_built_in;
-use crate::invoke::{ByClosure, invoke};
 use crate::own::{Again, Own};
 use crate::script::{code_at, run_in_scope};
-use crate::{Fuel, Host, InCall, Runner, Way};
+use crate::{Host, InCall, Runner, Way};
 use njs_clone::Machine;
 use njs_code::{ValidCode, valid_code_keeps_its_rule};
 use njs_convert::{Caller, Stop};
@@ -28,9 +27,6 @@ use njs_text::Steps;
 use njs_value::{Row, ScopeId, Value};
 use std::alloc::Global;
 use std::sync::ledger::Ledger;
-
-// How many calls may be active at a time.
-const MOST_CALLS: u32 = 256;
 
 const OUTERMOST: ScopeId = ScopeId(0);
 
@@ -106,8 +102,8 @@ fn run_body<C: Runner<L>, L: Ledger>(
     )
 }
 
-// Runs an entry under the interpreter's own caller.
-fn enter_entry<H: Host, L: Ledger, A: Again<H, Steps<L>>>(
+/// Runs an entry under the interpreter's own caller.
+pub(crate) fn enter_entry<H: Host, L: Ledger, A: Again<H, Steps<L>>>(
     alloc: Global,
     codes: &[ValidCode],
     entry: Entry<'_>,
@@ -137,7 +133,8 @@ fn enter_entry<H: Host, L: Ledger, A: Again<H, Steps<L>>>(
     }
 }
 
-fn outcome_of(answer: Result<Value, Stop>) -> Outcome
+/// How a run ended, by its answer.
+pub(crate) fn outcome_of(answer: Result<Value, Stop>) -> Outcome
     ensures { answer_of result ≡ answer }
 {
     match answer {
@@ -146,44 +143,4 @@ fn outcome_of(answer: Result<Value, Stop>) -> Outcome
         Err(Stop::Fuel) => Outcome::Fuel,
         Err(Stop::NoMemory) => Outcome::NoMemory,
     }
-}
-
-/// Runs the body of a module, a call, or a built-in function. The codes are those of the scripts of a program, and at most 256
-/// calls are active at a time.
-pub fn run<H: Host, L: Ledger>(
-    alloc: Global,
-    machine: &mut Machine<'_>,
-    codes: &[ValidCode],
-    entry: Entry<'_>,
-    fuel: &mut Fuel,
-    host: &mut H,
-    steps: &mut Steps<L>,
-) -> Outcome
-    requires fits { FitsProgram H.rows (H.zones host.old) (counts_of codes.now) machine.old }
-    requires entry { FitsEntry H.rows codes.now machine.old entry }
-    ensures told { (k : Known) (program : Program) (is : IsProgram H.means H.constructs codes.now k program) → H.agrees host.new k → Means (StandsIn (H.keeps host.old) fuel.old.left k is.of_codes.outermost machine.old) (StandsIn (H.keeps host.new) fuel.new.left k is.of_codes.outermost machine.new) (H.halted host.new k) machine.new.texts (ShowsValue machine.new.texts) (answer_of result) (entry_by program is.of_codes.scripts (calls_at program 256) machine.old.texts entry.entry) }
-    ensures entered { Entered H.rows (counts_of codes.now) (H.agrees host.old) (H.agrees host.new) (H.zones host.new) machine.old machine.new (answer_of result) fuel.old.left fuel.new.left steps.old steps.new }
-{
-    let call = |machine: &mut Machine<'_>, fuel: &mut Fuel, host: &mut H, callee: Value, way: Way, args: &[Value], steps: &mut Steps<
-        L,
-    >| -> Result<Value, Stop>
-        requires fits { FitsProgram H.rows (H.zones host.old) (counts_of codes.now) machine.old }
-        requires callee { FitsValue (sizes machine.old) callee }
-        requires way { FitsWay (sizes machine.old) way }
-        requires args { AllByRecursion (FitsValue (sizes machine.old)) args.now }
-        ensures told { (k : Known) (program : Program) → IsProgram H.means H.constructs codes.entry.now k program → H.agrees host.new k → Means (Stands (H.keeps host.old) fuel.old.left k machine.old) (Stands (H.keeps host.new) fuel.new.left k machine.new) (H.halted host.new k) machine.new.texts (ShowsValue machine.new.texts) result (by_way (calls_at program 256) machine.old.texts way (content machine.old.texts callee) (map (content machine.old.texts) args.now)) }
-        ensures entered { Entered H.rows (counts_of codes.entry.now) (H.agrees host.old) (H.agrees host.new) (H.zones host.new) machine.old machine.new result fuel.old.left fuel.new.left steps.old steps.new }
-    {
-        invoke(
-            alloc, codes, machine, fuel, host, callee, way, args, MOST_CALLS, steps,
-        )
-    };
-    let mut own = Own {
-        fuel,
-        host,
-        run: ByClosure { codes, call },
-    };
-    outcome_of(enter_entry(
-        alloc, codes, entry, &mut own, machine, steps,
-    ))
 }

@@ -12,7 +12,6 @@ mod entry;
 mod functions;
 mod host;
 mod in_call;
-mod invoke;
 mod jumps;
 mod lead;
 mod lists;
@@ -35,7 +34,7 @@ mod taking;
 mod turn;
 
 pub use at::At;
-pub use entry::{Entry, Outcome, run};
+pub use entry::{Entry, Outcome};
 pub use host::{Fuel, Host};
 pub use in_call::InCall;
 pub use lists::More;
