@@ -1,5 +1,5 @@
 -- Calls of any value, and `new`: what they mean, by what is called.
-use Rattle.std.proofs.Common.{◌≡◌, ℕ, zero, suc, ◌-◌, List, [], ◌∷◌, ◌++◌, map, Bool, true, false, Option, Some, None, Result, Ok, Err, refl, sym, ap, ◌∙◌, subst}
+use Rattle.std.proofs.Common.{◌≡◌, ℕ, zero, suc, ◌-◌, ◌≤◌, List, [], ◌∷◌, ◌++◌, map, Bool, true, false, Option, Some, None, Result, Ok, Err, refl, sym, ap, ◌∙◌, subst, arith}
 use Rattle.std.specs.Prelude.{nat_lt, if◌then◌else◌}
 use Rattle.std.specs.Option.{option_map_or}
 use Rattle.std.proofs.lemmas.List.{map-append}
@@ -23,10 +23,10 @@ use Rattle.njs_meaning.specs.State.{State, Outcome, Gives, Throws, Spent, Asks}
 use Rattle.njs_meaning.specs.Functions.{Program, inner_at, is_constructor, call_inner, construct_inner, with_further, calls_at}
 use Rattle.njs_convert.specs.declared.stop.Stop.{Stop}
 use Rattle.njs_convert.specs.declared.stop.Stop.TheVariants.{Throw, Fuel, NoMemory}
-use Rattle.njs_convert.specs.Tells.{Tells, ShowsValue, Extends, ThrowsError, Grows}
+use Rattle.njs_convert.specs.Tells.{Tells, ShowsValue, Extends, ThrowsError, CountsError, Grows}
 use Rattle.njs_convert.proofs.Thrown.{thrown}
 use Rattle.njs_simul.specs.Asking.{Holding, CallsAlwaysEnd}
-use Rattle.njs_simul.specs.Fits.{Names, Good, Fared, CallsFare}
+use Rattle.njs_simul.specs.Fits.{Names, Good, Fares, Fared, CallsFare}
 use Rattle.njs_simul.proofs.Asking.{keeps_everywhere}
 use Rattle.njs_simul.proofs.Program.{program_means}
 use Rattle.njs_interp.specs.declared.own.Way.{Way}
@@ -34,7 +34,7 @@ use Rattle.njs_interp.specs.declared.own.Way.TheVariants as way
 use Rattle.njs_interp.specs.Grown.{Widens}
 use Rattle.njs_interp.specs.Hosts.{Answers}
 use Rattle.njs_interp.specs.Owned.{stands_extends}
-use Rattle.njs_interp.specs.Standing.{Holds, Stands, by_way, CallsKeep}
+use Rattle.njs_interp.specs.Standing.{Stands, by_way, CallsKeep}
 use Rattle.njs_interp.specs.Calling.{CodesOf, IsProgram, script_by, row_by, bound_way, can_construct, may_enter, refusal, entered_by, entered}
 use Rattle.njs_interp.proofs.Alone.{message_same}
 use Rattle.njs_interp.proofs.Kept.{Widens-objects, Widens-scopes}
@@ -135,22 +135,22 @@ pub by_way_fares : (env : Names) (calls : Calls) → CallsFare env calls → (te
 by_way_fares env calls fare texts (way.Call this) f args s good = fare.call f (content texts this) args s good
 by_way_fares env calls fare texts way.New f args s good = fare.construct f args s good
 
--- what is told of a good outcome
-pub good_tells : (keeps : Known → State → Type 0) (ticks : ℕ) (k : Known) (l : Heap) (stopped : State → Type 0) (s : State) (r : Result Value Stop) (o : Outcome PlainValue) → Fared k.around s o
-    → Tells (Holds keeps ticks k l) stopped l.texts (ShowsValue l.texts) r o → Tells (Stands keeps ticks k l) stopped l.texts (ShowsValue l.texts) r o
-good_tells keeps ticks k l stopped s (Ok v) (Gives a t) fares told = (told.0, record { holds = told.1; good = fares.good })
-good_tells keeps ticks k l stopped s (Ok v) (Throws w t) fares told = absurd told
-good_tells keeps ticks k l stopped s (Ok v) (Spent t) fares told = absurd told
-good_tells keeps ticks k l stopped s (Ok v) (Asks zone op t) fares told = absurd told
-good_tells keeps ticks k l stopped s (Err (Throw v)) (Gives a t) fares told = absurd told
-good_tells keeps ticks k l stopped s (Err (Throw v)) (Throws w t) fares told = (told.0, record { holds = told.1; good = fares.good })
-good_tells keeps ticks k l stopped s (Err (Throw v)) (Spent t) fares told = absurd told
-good_tells keeps ticks k l stopped s (Err (Throw v)) (Asks zone op t) fares told = absurd told
-good_tells keeps ticks k l stopped s (Err Fuel) (Gives a t) fares told = absurd told
-good_tells keeps ticks k l stopped s (Err Fuel) (Throws w t) fares told = absurd told
-good_tells keeps ticks k l stopped s (Err Fuel) (Spent t) fares told = record { holds = told; good = fares.good }
-good_tells keeps ticks k l stopped s (Err Fuel) (Asks zone op t) fares told = absurd told
-good_tells keeps ticks k l stopped s (Err NoMemory) o fares told = told
+-- what is told of an outcome to which it leads
+pub fared_tells : (env : Names) (holds fared stopped : State → Type 0) (texts : List (List ℕ)) (s : State) → ((t : State) → Fares env s t → holds t → fared t) → (r : Result Value Stop) (o : Outcome PlainValue) → Fared env s o
+    → Tells holds stopped texts (ShowsValue texts) r o → Tells fared stopped texts (ShowsValue texts) r o
+fared_tells env holds fared stopped texts s go (Ok v) (Gives a t) fares told = (told.0, go t fares told.1)
+fared_tells env holds fared stopped texts s go (Ok v) (Throws w t) fares told = absurd told
+fared_tells env holds fared stopped texts s go (Ok v) (Spent t) fares told = absurd told
+fared_tells env holds fared stopped texts s go (Ok v) (Asks zone op t) fares told = absurd told
+fared_tells env holds fared stopped texts s go (Err (Throw v)) (Gives a t) fares told = absurd told
+fared_tells env holds fared stopped texts s go (Err (Throw v)) (Throws w t) fares told = (told.0, go t fares told.1)
+fared_tells env holds fared stopped texts s go (Err (Throw v)) (Spent t) fares told = absurd told
+fared_tells env holds fared stopped texts s go (Err (Throw v)) (Asks zone op t) fares told = absurd told
+fared_tells env holds fared stopped texts s go (Err Fuel) (Gives a t) fares told = absurd told
+fared_tells env holds fared stopped texts s go (Err Fuel) (Throws w t) fares told = absurd told
+fared_tells env holds fared stopped texts s go (Err Fuel) (Spent t) fares told = go t fares told
+fared_tells env holds fared stopped texts s go (Err Fuel) (Asks zone op t) fares told = absurd told
+fared_tells env holds fared stopped texts s go (Err NoMemory) o fares told = told
 
 -- ---- the calls of a program
 
@@ -176,7 +176,6 @@ module _ (means : Answers) (constructs : Row → Bool) (codes : List Code) (k : 
       (answers calls (λ f this args s before. keep.call f this args s before) (λ f args s before. keep.construct f args s before) row this args made s before)) n
       in
       record { call = λ f this args s before. ends.call f this args s before; construct = λ f args s before. ends.construct f args s before }
-
 -- ---- heaps
 
 pub widens_grows : (h k : Heap) → Widens h k → Grows h k
@@ -188,3 +187,10 @@ widens_grows h k widens = record {
   more = widens.more;
   texts = widens.texts;
 }
+
+-- ---- steps
+
+pub error_counted : (old new : ℕ) (stop : Stop) → CountsError old new stop → old ≤ new
+error_counted old new (Throw v) counts = omega (arith, counts)
+error_counted old new Fuel counts = absurd counts
+error_counted old new NoMemory counts = omega (arith, counts)

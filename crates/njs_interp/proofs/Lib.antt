@@ -39,6 +39,7 @@ pub mod Scripts
 pub mod Constructing
 pub mod Bodies
 pub mod Invoking
+pub mod Entries
 pub mod Turning
 pub mod Running
 pub mod Lifting

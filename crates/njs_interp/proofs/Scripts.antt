@@ -61,7 +61,7 @@ is_within xs at below = elim ((slice_get_cases xs at).1) [
   | inr past ↦ absurd (omega (arith, below, past.0))
 ]
 
-some_is : {A : Type 0} (x y : A) → Some x ≡ Some y → x ≡ y
+pub some_is : {A : Type 0} (x y : A) → Some x ≡ Some y → x ≡ y
 some_is x y is = cc
 
 map_there : {A B : Type 0} (f : A → B) (xs : List A) (at : ℕ) (x : A) → slice_get xs at ≡ Some x → slice_get (map f xs) at ≡ Some (f x)

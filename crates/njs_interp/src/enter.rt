@@ -12,21 +12,19 @@ ghost use Rattle.njs_meaning.specs.Values.{ObjectAt};
 ghost use Rattle.njs_convert.specs.Tells.{Means, ShowsValue, Grows, FitsAnswer};
 ghost use Rattle.njs_simul.specs.Fits.{Scoped};
 ghost use Rattle.njs_interp.specs.Grown.{Widens};
-ghost use Rattle.njs_interp.specs.Hosts.{counts_of, FitsProgram};
-ghost use Rattle.njs_interp.specs.Standing.{Holds, Stands, FitsWay, by_way};
-ghost use Rattle.njs_interp.specs.Calling.{CodesOf, IsProgram, StandsThere, script_by, row_by, bound_way, refusal, entered, IsEntered, lent_by};
+ghost use Rattle.njs_interp.specs.Hosts.{counts_of};
+ghost use Rattle.njs_interp.specs.Standing.{FitsWay, by_way};
+ghost use Rattle.njs_interp.specs.Calling.{CodesOf, StandsThere, script_by, bound_way, refusal, IsEntered};
 
 use crate::construct::{construct_script, is_constructor};
-use crate::own::{Again, Own};
 use crate::script::call_script;
 use crate::{Host, InCall, Runner, Way};
 use njs_clone::Machine;
 use njs_code::ValidCode;
-use njs_convert::{Caller, Stop, throw};
+use njs_convert::{Caller, Stop};
 use njs_members::is_callable;
-use njs_shared::Inner;
 use njs_text::{NoMemory, Steps};
-use njs_value::{Cause, ObjId, Row, ScopeId, Value};
+use njs_value::{Cause, ObjId, ScopeId, Value};
 use std::alloc::Global;
 use std::sync::ledger::Ledger;
 
@@ -124,45 +122,6 @@ fn enter_bound<C: Runner<L>, L: Ledger>(
     }
 }
 
-// Calls a built-in function, or makes an object by it.
-pub(crate) fn enter_built_in<H: Host, L: Ledger, A: Again<H, Steps<L>>>(
-    alloc: Global,
-    row: Row,
-    way: Way,
-    args: &[Value],
-    own: &mut Own<'_, H, A>,
-    machine: &mut Machine<'_>,
-    steps: &mut Steps<L>,
-) -> Result<Value, Stop>
-    requires row { H.rows row }
-    requires way { FitsWay (sizes machine.old) way }
-    requires args { AllByRecursion (FitsValue (sizes machine.old)) args.now }
-    requires may { A.may own.old.run }
-    requires fits { FitsProgram H.rows (H.zones own.old.host.now) (A.counts own.old.run) machine.old }
-    ensures told { (calls : Calls) (k : Known) → A.follows own.old.run k calls → H.agrees own.new.host.now k → Means (Stands (H.keeps own.old.host.now) own.old.fuel.now.left k machine.old) (Stands (H.keeps own.new.host.now) own.new.fuel.now.left k machine.new) (H.halted own.new.host.now k) machine.new.texts (ShowsValue machine.new.texts) result (row_by H.means calls machine.old.texts way row (map (content machine.old.texts) args.now)) }
-    ensures agrees { (k : Known) → H.agrees own.new.host.now k → H.agrees own.old.host.now k }
-    ensures fits { FitsProgram H.rows (H.zones own.new.host.now) (A.counts own.new.run) machine.new }
-    ensures same { lent_by own.new.fuel.ghost_name own.new.host.ghost_name (A.counts own.new.run) ≡ lent_by own.old.fuel.ghost_name own.old.host.ghost_name (A.counts own.old.run) }
-    ensures value { FitsAnswer (FitsValue (sizes machine.new)) (sizes machine.new) result }
-    ensures spent { own.new.fuel.now.left ≤ own.old.fuel.now.left }
-    ensures grows { Grows machine.old machine.new }
-    ensures steps { steps.old ≤ steps.new }
-{
-    match way {
-        Way::Call(this) => H::built_in(alloc, row, own, machine, this, args, false, steps),
-        Way::New => H::built_in(
-            alloc,
-            row,
-            own,
-            machine,
-            Value::Undefined,
-            args,
-            true,
-            steps,
-        ),
-    }
-}
-
 // The arguments of a bound function, and then those of a call of it.
 fn joined(alloc: Global, first: &[Value], args: &[Value]) -> Result<Vec<Value>, NoMemory>
     ensures { IfOk result (λ all. all.items ≡ first.now ++ args.now) }
@@ -188,75 +147,6 @@ pub(crate) fn refusal(way: Way) -> Cause
     match way {
         Way::Call(_) => Cause::NotFunction,
         Way::New => Cause::NotConstructor,
-    }
-}
-
-/// Calls an object with arguments, or makes an object by it.
-pub(crate) fn enter<H: Host, L: Ledger, A: Again<H, Steps<L>>>(
-    alloc: Global,
-    codes: &[ValidCode],
-    object: ObjId,
-    way: Way,
-    args: &[Value],
-    own: &mut Own<'_, H, A>,
-    machine: &mut Machine<'_>,
-    steps: &mut Steps<L>,
-) -> Result<Value, Stop>
-    requires object { object.0 < length machine.old.objects }
-    requires way { FitsWay (sizes machine.old) way }
-    requires args { AllByRecursion (FitsValue (sizes machine.old)) args.now }
-    requires counts { A.counts own.old.run ≡ counts_of codes.now }
-    requires may { A.may own.old.run }
-    requires fits { FitsProgram H.rows (H.zones own.old.host.now) (A.counts own.old.run) machine.old }
-    ensures told { (calls : Calls) (k : Known) (program : Program) → IsProgram H.means H.constructs codes.now k program → A.follows own.old.run k calls → H.agrees own.new.host.now k → Means (Stands (H.keeps own.old.host.now) own.old.fuel.now.left k machine.old) (Holds (H.keeps own.new.host.now) own.new.fuel.now.left k machine.new) (H.halted own.new.host.now k) machine.new.texts (ShowsValue machine.new.texts) result (entered program calls machine.old.texts way object.0 (map (content machine.old.texts) args.now)) }
-    ensures agrees { (k : Known) → H.agrees own.new.host.now k → H.agrees own.old.host.now k }
-    ensures fits { FitsProgram H.rows (H.zones own.new.host.now) (A.counts own.new.run) machine.new }
-    ensures same { lent_by own.new.fuel.ghost_name own.new.host.ghost_name (A.counts own.new.run) ≡ lent_by own.old.fuel.ghost_name own.old.host.ghost_name (A.counts own.old.run) }
-    ensures value { FitsAnswer (FitsValue (sizes machine.new)) (sizes machine.new) result }
-    ensures spent { own.new.fuel.now.left ≤ own.old.fuel.now.left }
-    ensures grows { Grows machine.old machine.new }
-    ensures steps { steps.old ≤ steps.new }
-{
-    match &machine.object(object).inner {
-        Inner::Script {
-            module,
-            code,
-            scope,
-        } => {
-            let script = Scripted {
-                unit: *module,
-                number: *code,
-                scope: *scope,
-            };
-            enter_script(
-                alloc, codes, script, object, way, args, own, machine, steps,
-            )
-        }
-        Inner::BuiltIn(row) => {
-            let row = *row;
-            enter_built_in(alloc, row, way, args, own, machine, steps)
-        }
-        Inner::Bound {
-            target,
-            this,
-            args: first,
-        } => {
-            let target = *target;
-            let way = bound_way(way, *this);
-            match joined(alloc, first.as_slice(), args) {
-                Ok(all) => enter_bound(
-                    alloc,
-                    target,
-                    way,
-                    all.as_slice(),
-                    own,
-                    machine,
-                    steps,
-                ),
-                Err(_) => Err(Stop::NoMemory),
-            }
-        }
-        Inner::Plain | Inner::ZoneNumber(_) => Err(throw(alloc, machine, refusal(way), steps)),
     }
 }
 

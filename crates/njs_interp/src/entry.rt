@@ -11,15 +11,12 @@ ghost use Rattle.njs_meaning.specs.Running.{Calls};
 ghost use Rattle.njs_convert.specs.Tells.{Means, ShowsValue, Grows, FitsAnswer};
 ghost use Rattle.njs_simul.specs.Fits.{Scoped};
 ghost use Rattle.njs_interp.specs.Grown.{Widens};
-ghost use Rattle.njs_interp.specs.Hosts.{counts_of, FitsProgram};
-ghost use Rattle.njs_interp.specs.Standing.{Holds};
-ghost use Rattle.njs_interp.specs.Calling.{CodesOf, IsProgram, lent_by};
-ghost use Rattle.njs_interp.specs.Entries.{StandsIn, module_by, entry_by, BodyThere, FitsEntry, answer_of};
+ghost use Rattle.njs_interp.specs.Hosts.{counts_of};
+ghost use Rattle.njs_interp.specs.Calling.{CodesOf};
+ghost use Rattle.njs_interp.specs.Entries.{module_by, BodyThere, answer_of};
 
-use crate::enter::enter_built_in;
-use crate::own::{Again, Own};
 use crate::script::{code_at, run_in_scope};
-use crate::{Host, InCall, Runner, Way};
+use crate::{InCall, Runner};
 use njs_clone::Machine;
 use njs_code::{ValidCode, valid_code_keeps_its_rule};
 use njs_convert::{Caller, Stop};
@@ -59,7 +56,7 @@ pub enum Outcome {
 }
 
 // Runs the body of a module in a new scope below the outermost one.
-fn run_body<C: Runner<L>, L: Ledger>(
+pub(crate) fn run_body<C: Runner<L>, L: Ledger>(
     alloc: Global,
     codes: &[ValidCode],
     unit: u32,
@@ -102,38 +99,7 @@ fn run_body<C: Runner<L>, L: Ledger>(
     )
 }
 
-/// Runs an entry under the interpreter's own caller.
-pub(crate) fn enter_entry<H: Host, L: Ledger, A: Again<H, Steps<L>>>(
-    alloc: Global,
-    codes: &[ValidCode],
-    entry: Entry<'_>,
-    own: &mut Own<'_, H, A>,
-    machine: &mut Machine<'_>,
-    steps: &mut Steps<L>,
-) -> Result<Value, Stop>
-    requires entry { FitsEntry H.rows codes.now machine.old entry }
-    requires counts { A.counts own.old.run ≡ counts_of codes.now }
-    requires may { A.may own.old.run }
-    requires fits { FitsProgram H.rows (H.zones own.old.host.now) (A.counts own.old.run) machine.old }
-    ensures told { (calls : Calls) (k : Known) (program : Program) (is : IsProgram H.means H.constructs codes.now k program) → A.follows own.old.run k calls → H.agrees own.new.host.now k → Means (StandsIn (H.keeps own.old.host.now) own.old.fuel.now.left k is.of_codes.outermost machine.old) (Holds (H.keeps own.new.host.now) own.new.fuel.now.left k machine.new) (H.halted own.new.host.now k) machine.new.texts (ShowsValue machine.new.texts) result (entry_by program is.of_codes.scripts calls machine.old.texts entry.entry) }
-    ensures agrees { (k : Known) → H.agrees own.new.host.now k → H.agrees own.old.host.now k }
-    ensures fits { FitsProgram H.rows (H.zones own.new.host.now) (A.counts own.new.run) machine.new }
-    ensures same { lent_by own.new.fuel.ghost_name own.new.host.ghost_name (A.counts own.new.run) ≡ lent_by own.old.fuel.ghost_name own.old.host.ghost_name (A.counts own.old.run) }
-    ensures value { FitsAnswer (FitsValue (sizes machine.new)) (sizes machine.new) result }
-    ensures spent { own.new.fuel.now.left ≤ own.old.fuel.now.left }
-    ensures grows { Grows machine.old machine.new }
-    ensures steps { steps.old ≤ steps.new }
-{
-    match entry {
-        Entry::Body(unit) => run_body(alloc, codes, unit, own, machine, steps),
-        Entry::Call { callee, this, args } => own.call(alloc, machine, callee, this, args, steps),
-        Entry::Row { row, this, args } => {
-            enter_built_in(alloc, row, Way::Call(this), args, own, machine, steps)
-        }
-    }
-}
-
-/// How a run ended, by its answer.
+// How a run ended, by its answer.
 pub(crate) fn outcome_of(answer: Result<Value, Stop>) -> Outcome
     ensures { answer_of result ≡ answer }
 {
