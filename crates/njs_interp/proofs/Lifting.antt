@@ -1,33 +1,28 @@
 -- What an operation does on the heap, or in a call, as a step under a runner.
-use Rattle.std.proofs.Common.{◌≡◌, ℕ, ◌≤◌, List, length, Option, Some, Result, Ok, Err, refl, subst, slice_get}
+use Rattle.std.proofs.Common.{◌≡◌, ℕ, List, Result, Ok, Err}
 use Rattle.njs_value.specs.declared.Value.{Value}
-use Rattle.njs_shared.specs.Heap.{Heap, HeapObject}
-use Rattle.njs_shared.specs.declared.object.Inner.{Inner}
-use Rattle.njs_shared.specs.declared.object.Inner.TheVariants as inner
-use Rattle.njs_shared.specs.declared.object.Scope.{Scope}
+use Rattle.njs_shared.specs.Heap.{Heap}
 use Rattle.njs_code.specs.declared.op.Kind.{Kind}
 use Rattle.njs_code.specs.declared.op.Op.{Op}
 use Rattle.njs_code.specs.declared.code.FunctionCode.{FunctionCode}
-use Rattle.njs_meaning.specs.State.{State, Outcome, Gives, Throws, Spent, Asks}
+use Rattle.njs_meaning.specs.State.{State, Gives, Throws, Spent, Asks}
 use Rattle.njs_meaning.specs.Running.{Calls}
 use Rattle.njs_convert.specs.declared.stop.Stop.{Stop}
 use Rattle.njs_convert.specs.declared.stop.Stop.TheVariants.{Throw, Fuel, NoMemory}
 use Rattle.njs_convert.specs.FirstHeap.{StandsFor}
-use Rattle.njs_convert.specs.Tells.{IsOrdinary}
 use Rattle.njs_simul.specs.Stacks as plain
-use Rattle.njs_simul.specs.Stacks.{Frame, Ended, Thrown}
+use Rattle.njs_simul.specs.Stacks.{Ended, Thrown}
 use Rattle.njs_simul.specs.Step.{Action, Goes, Ends, Leads, Stuck, act, from}
 use Rattle.njs_interp.specs.declared.next.Next.{Next}
 use Rattle.njs_interp.specs.declared.next.Next.TheVariants as next
 use Rattle.njs_interp.specs.declared.stacks.Stacks.{Stacks}
 use Rattle.njs_interp.specs.Plain.{heap_of, plain_stacks}
-use Rattle.njs_interp.specs.Acts.{SameBeside, OnHeap, Unanswered, Acts, state_in}
-use Rattle.njs_interp.specs.Tells.{IsFrame, ActsOnHeap, ActsInCall, Leaves}
+use Rattle.njs_interp.specs.Acts.{SameBeside, OnHeap, Unanswered, Acts}
+use Rattle.njs_interp.specs.Tells.{ActsOnHeap, ActsInCall, Leaves}
 use Rattle.njs_interp.specs.Jumps.{ActsNext, JumpsOnHeap, LeavesNext}
-use Rattle.njs_interp.specs.Grown.{Grown, FitsFurther, FunctionsFit}
 use Rattle.njs_interp.specs.Asked.{ActsAsked}
 use Rattle.njs_interp.specs.Stepping.{Steps}
-use Rattle.njs_interp.proofs.AskedHeap.{acts_by, state_by}
+use Rattle.njs_interp.proofs.AskedHeap.{state_by}
 
 -- as an answer that says where the code goes on
 abbrev pub next_after : Result (Unit {0}) Stop → Result Next Stop
@@ -114,17 +109,6 @@ leaves_next f op h st (Ok done) leaves = leaves
 leaves_next f op h st (Err (Throw v)) leaves = leaves
 leaves_next f op h st (Err Fuel) leaves = tt
 leaves_next f op h st (Err NoMemory) leaves = tt
-
--- further objects that are ordinary fit
-ordinary_fits : (counts : ℕ → ℕ → Option (List ℕ)) (scopes : List Scope) (i : Inner) → IsOrdinary i → FitsFurther counts scopes i
-ordinary_fits counts scopes inner.Plain is = tt
-ordinary_fits counts scopes (inner.Script unit number scope) is = absurd is
-ordinary_fits counts scopes (inner.BuiltIn row) is = absurd is
-ordinary_fits counts scopes (inner.Bound target this args) is = tt
-ordinary_fits counts scopes (inner.ZoneNumber zone) is = absurd is
-
-pub functions_fit : (counts : ℕ → ℕ → Option (List ℕ)) (old new : Heap) → Grown old new → FunctionsFit counts old new
-functions_fit counts old new grown = record { fresh = λ at object there far. ordinary_fits counts new.scopes object.inner (grown.fresh at object there far) }
 
 -- an operation that asks a caller, as a step
 pub steps_asked : (follows : Calls → Type 0) (agrees : Type 0) (stands holds stopped : State → Type 0) (unit : ℕ) (this : Value) (args : List Value) (k : Kind) (old new : Heap) (before after : Stacks) (r : Result (Unit {0}) Stop)

@@ -1,8 +1,8 @@
 -- The run of a function's code, turn after turn, and that it ends.
-use Rattle.std.proofs.Common.{◌≡◌, ℕ, ◌+◌, ◌-◌, ◌*◌, ◌<◌, ◌≤◌, Bool, true, false, List, [], ◌∷◌, length, map, drop, Option, Some, None, Result, Ok, Err, refl, sym, ap, subst, ◌∙◌, arith, slice_get}
-use Rattle.std.specs.Prelude.{OnOk, if◌then◌else◌, nat_le}
+use Rattle.std.proofs.Common.{◌≡◌, ℕ, ◌+◌, ◌-◌, ◌*◌, ◌<◌, ◌≤◌, Bool, true, false, List, length, drop, Option, Some, None, Ok, Err, refl, sym, ap, subst, ◌∙◌, arith, slice_get}
 use Rattle.std.specs.List.{AllByRecursion}
 use native.Mathlib.Decide.{dec_lt}
+use mathlib.Core.Logic.{dite}
 use Rattle.std.proofs.Math.Nat.{mul-le-mul_right, add-mul}
 use Rattle.std.proofs.lemmas.Bool.{false≢true}
 use Rattle.njs_value.specs.declared.ScopeId.{ScopeId}
@@ -15,30 +15,27 @@ use Rattle.njs_code.specs.declared.op.Op.{Op}
 use Rattle.njs_code.specs.declared.code.FunctionCode.{FunctionCode}
 use Rattle.njs_code.specs.Facts.{StandsAt, PartRule}
 use Rattle.njs_code.specs.Valid.{is_charge}
-use Rattle.njs_meaning.specs.Values.{PlainValue}
-use Rattle.njs_meaning.specs.State.{State, Outcome}
-use Rattle.njs_meaning.specs.Replies.{state_of}
+use Rattle.njs_meaning.specs.State.{State}
 use Rattle.njs_meaning.specs.Running.{Calls}
 use Rattle.njs_convert.specs.declared.stop.Stop.{Stop}
 use Rattle.njs_convert.specs.declared.stop.Stop.TheVariants.{Throw, Fuel, NoMemory}
-use Rattle.njs_convert.specs.Tells.{Tells, ShowsValue, FitsAnswer}
+use Rattle.njs_convert.specs.Tells.{FitsAnswer}
 use Rattle.njs_simul.specs.Stacks.{Frame}
 use Rattle.njs_simul.specs.Step.{from}
 use Rattle.njs_simul.specs.Runs.{Runs}
 use Rattle.njs_simul.specs.Fits.{Names, Good, CallsFare}
 use Rattle.njs_simul.specs.Program.{starting}
 use Rattle.njs_interp.specs.declared.stacks.Stacks.{Stacks}
-use Rattle.njs_interp.specs.declared.turn.Turned.{Turned}
 use Rattle.njs_interp.specs.declared.turn.Turned.TheVariants as turned
 use Rattle.njs_interp.specs.Plain.{plain_stacks}
-use Rattle.njs_interp.specs.Sits.{Sits, SlotsFrom, Entered, FitsEnding}
+use Rattle.njs_interp.specs.Sits.{Sits, SlotsFrom, Entered}
 use Rattle.njs_interp.specs.Tells.{IsFrame}
 use Rattle.njs_interp.specs.Grown.{Widens}
 use Rattle.njs_interp.specs.Standing.{CallsKeep}
 use Rattle.njs_interp.specs.Leading.{SitsAt}
 use Rattle.njs_interp.specs.Turning.{AtStart, Turns, LeavesTurned, Onward, RunsCode, RanTo}
 use Rattle.njs_interp.proofs.Kept.{content-widened, values-widened}
-use Rattle.njs_interp.proofs.Leading.{at_within}
+use Rattle.njs_interp.proofs.Leading.{at_within, same_at}
 use Rattle.njs_interp.proofs.Turning.{good_at, run_stopped}
 
 -- ---- as the run begins
@@ -49,7 +46,7 @@ plain_start texts scope st start = cc
 pub start_sits : (functions : List FunctionCode) (f : FunctionCode) (h : Heap) (scope : ScopeId) (st : Stacks) → PartRule functions f → SlotsFrom f.slots h.scopes scope.0 → AtStart scope st → SitsAt f h st (length f.ops)
 start_sits functions f h scope st part slots start = record {
   op = part.begins.first;
-  stands = record { index = 0; counted = refl; found = part.begins.found };
+  stands = record { index = 0; counted = omega arith; found = part.begins.found };
   sits = subst (λ depth. Sits h f.slots depth st) (sym part.begins.depth_same) (record {
     operands = ap length start.operands;
     scopes = ap length start.scopes;
@@ -97,8 +94,8 @@ module _ (env : Names) (follows : Calls → Type 0) (unit : ℕ) (this : Value) 
     ran_on stands' to stand turns = record {
       by = λ calls frame outcome s follow agree same is here run.
           let before = ran.by calls frame outcome s follow (agreed agree) same is here run in
-          let then = turns.by calls frame outcome before.0 (kept calls follow) agree same (framed frame is) before.1 before.2 in
-          (then.0, stand then.0 then.1 (good_at (Good env) frame f.ops outcome (from frame f.ops to) (plain_stacks new.texts after) then.0 then.2), then.2);
+          let next = turns.by calls frame outcome before.0 (kept calls follow) agree same (framed frame is) before.1 before.2 in
+          (next.0, stand next.0 next.1 (good_at (Good env) frame f.ops outcome (from frame f.ops to) (plain_stacks new.texts after) next.0 next.2), next.2);
     }
 
     pub ran_ends : (v : Value) → Turns env follows' agrees' stands holds stopped unit this args f.ops place now new st after (Ok (turned.Ends v)) → RunsCode env follows agrees' stood holds stopped unit this args f.ops scope.0 old new (Ok v)
@@ -114,6 +111,9 @@ module _ (env : Names) (follows : Calls → Type 0) (unit : ℕ) (this : Value) 
           let before = ran.by calls frame outcome s follow (agreed agree) same is here run in
           turns.by calls frame outcome before.0 (kept calls follow) agree same (framed frame is) before.1 before.2;
     }
+
+pub sits_here : (f : FunctionCode) (h : Heap) (st : Stacks) (place : ℕ) (op : Op) → SitsAt f h st place → StandsAt f.ops place op → Sits h f.slots op.depth st
+sits_here f h st place op sits stands = subst (λ (o : Op). Sits h f.slots o.depth st) (same_at f.ops place sits.op op sits.stands stands) sits.sits
 
 pub stops_fit : (f : FunctionCode) (h : Heap) (st : Stacks) (stop : Stop) → LeavesTurned f h st (Err stop) → FitsAnswer {V = Value} (FitsValue (sizes h)) (sizes h) (Err stop)
 stops_fit f h st (Throw v) leaves = leaves

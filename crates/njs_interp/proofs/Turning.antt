@@ -1,18 +1,14 @@
 -- One turn of the loop over a function's code: what the operation did is what the run does next.
-use Rattle.std.proofs.Common.{◌≡◌, ℕ, ◌-◌, ◌≤◌, List, ◌∷◌, length, drop, Option, Some, None, Result, Ok, Err, refl, sym, ap, subst, ◌∙◌, arith}
+use Rattle.std.proofs.Common.{◌≡◌, ℕ, ◌-◌, List, ◌∷◌, length, Option, Some, None, Result, Ok, Err, refl, sym, ap, subst, ◌∙◌, arith}
 use Rattle.std.specs.Prelude.{OnOk, OnErr}
 use Rattle.njs_value.specs.declared.Value.{Value}
 use Rattle.njs_value.specs.declared.Value.TheVariants as value
 use Rattle.njs_text.specs.declared.memory.NoMemory.{NoMemory}
 use Rattle.njs_shared.specs.Heap.{Heap, sizes}
-use Rattle.njs_shared.specs.Fits.{FitsValue}
-use Rattle.njs_clone.specs.Content.{content}
 use Rattle.njs_code.specs.declared.op.Address.{Address}
-use Rattle.njs_code.specs.declared.op.Depth.{Depth}
-use Rattle.njs_code.specs.declared.op.Kind.TheVariants as kind
 use Rattle.njs_code.specs.declared.op.Op.{Op}
 use Rattle.njs_code.specs.declared.code.FunctionCode.{FunctionCode}
-use Rattle.njs_code.specs.Effects.{depth_next, depth_left, depth_at_jump}
+use Rattle.njs_code.specs.Effects.{depth_next, depth_at_jump}
 use Rattle.njs_code.specs.Facts.{StandsAt, JumpStands, PartRule}
 use Rattle.njs_meaning.specs.Values.{PlainValue}
 use Rattle.njs_meaning.specs.State.{State, Outcome, Gives, Throws, Spent, Asks}
@@ -36,16 +32,15 @@ use Rattle.njs_interp.specs.declared.stacks.Ending.{Ending}
 use Rattle.njs_interp.specs.declared.stacks.Ending.TheVariants as ending
 use Rattle.njs_interp.specs.declared.stacks.Stacks.{Stacks}
 use Rattle.njs_interp.specs.declared.turn.Turned.{Turned}
-use Rattle.njs_interp.specs.declared.turn.Turned.TheVariants as turned
 use Rattle.njs_interp.specs.Plain.{plain_ending, plain_stacks}
 use Rattle.njs_interp.specs.Sits.{Sits, FitsEnding, Ready}
 use Rattle.njs_interp.specs.Acts.{Below, state_in}
 use Rattle.njs_interp.specs.Jumps.{ActsNext, LeavesNext}
 use Rattle.njs_interp.specs.Standing.{CallsKeep}
-use Rattle.njs_interp.specs.Leading.{Led, LedTo, RunsOn, LeavesLed, Further, SitsAt}
+use Rattle.njs_interp.specs.Leading.{LedTo, LeavesLed, Further}
 use Rattle.njs_interp.specs.Stepping.{GoesTo, Steps}
 use Rattle.njs_interp.specs.Turning.{over, turned_by, LeadsTo, WentOn, TurnTells, Turns, LeavesTurned, Onward}
-use Rattle.njs_interp.proofs.Leading.{from_at, same_first, same_at, at_within, StandsOn, next_stands}
+use Rattle.njs_interp.proofs.Leading.{from_at, same_first, same_at, StandsOn, next_stands}
 
 -- ---- the run
 

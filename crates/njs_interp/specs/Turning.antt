@@ -6,7 +6,6 @@ use Rattle.njs_value.specs.declared.Value.TheVariants as value
 use Rattle.njs_shared.specs.Heap.{Heap, sizes}
 use Rattle.njs_shared.specs.Fits.{FitsValue}
 use Rattle.njs_text.specs.declared.memory.NoMemory.{NoMemory}
-use Rattle.njs_code.specs.declared.op.Address.{Address}
 use Rattle.njs_code.specs.declared.op.Op.{Op}
 use Rattle.njs_code.specs.declared.op.Kind.TheVariants as kind
 use Rattle.njs_code.specs.declared.code.FunctionCode.{FunctionCode}

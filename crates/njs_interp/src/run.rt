@@ -1,9 +1,9 @@
 // The loop over the code of a function.
-ghost use Rattle.std.specs.Prelude.{◌≡◌, ◌≤◌, ◌∷◌, [], ℕ, length, IfOk};
+ghost use Rattle.std.specs.Prelude.{◌≡◌, ◌≤◌, length, IfOk};
 ghost use Rattle.std.specs.List.{AllByRecursion};
 ghost use Rattle.njs_shared.specs.Heap.{sizes};
 ghost use Rattle.njs_shared.specs.Fits.{FitsValue};
-ghost use Rattle.njs_code.specs.Facts.{PartRule, StandsAt};
+ghost use Rattle.njs_code.specs.Facts.{PartRule};
 ghost use Rattle.njs_meaning.specs.Errors.{first_count};
 ghost use Rattle.njs_meaning.specs.Replies.{Known};
 ghost use Rattle.njs_meaning.specs.Running.{Calls};
@@ -79,16 +79,7 @@ pub(crate) fn run_code<C: Runner<L>, L: Ledger>(
             function,
             op: op_at(function, place),
         };
-        match turn(
-            alloc,
-            &at,
-            place,
-            call,
-            caller,
-            machine,
-            &mut stacks,
-            steps,
-        ) {
+        match turn(alloc, &at, place, call, caller, machine, &mut stacks, steps) {
             Ok(Turned::Goes(to)) => place = to,
             Ok(Turned::Ends(value)) => return Ok(value),
             Err(stop) => return Err(stop),

@@ -1,5 +1,5 @@
 // One turn of the loop over the code of a function.
-ghost use Rattle.std.specs.Prelude.{◌≡◌, ◌≤◌, ◌<◌, ℕ, length, OnOk};
+ghost use Rattle.std.specs.Prelude.{◌≡◌, ◌≤◌, ◌<◌, length, OnOk};
 ghost use Rattle.std.specs.List.{AllByRecursion};
 ghost use Rattle.njs_shared.specs.Heap.{Heap, sizes};
 ghost use Rattle.njs_shared.specs.Fits.{FitsValue};
@@ -12,7 +12,7 @@ ghost use Rattle.njs_meaning.specs.Running.{Calls};
 ghost use Rattle.njs_interp.specs.Sits.{Sits};
 ghost use Rattle.njs_interp.specs.Jumps.{LeavesNext};
 ghost use Rattle.njs_interp.specs.Grown.{Widens};
-ghost use Rattle.njs_interp.specs.Stepping.{GoesTo, CountsAre};
+ghost use Rattle.njs_interp.specs.Stepping.{CountsAre};
 ghost use Rattle.njs_interp.specs.Turning.{over, LeadsTo, WentOn, Turns, LeavesTurned, Onward};
 
 use crate::lead::lead;

@@ -8,10 +8,10 @@ use Rattle.njs_interp.proofs.Running.{left_of}
 use Rattle.njs_interp.proofs.run.run_code.Given as goal
 
 -- every run of the code is at a place, with all that the operation there counts on
-abbrev pub invariant-loop : goal.invariant-loop
-invariant-loop g l = record {
+abbrev pub invariant-loop-to : goal.invariant-loop-to
+invariant-loop-to g l = record {
   sits : SitsAt l.function l.machine l.stacks l.place;
-  ran : (k : Known) → RanTo k.around (g.C.Caller.follows l.fn.caller k) (g.C.Caller.agrees l.caller k) (g.C.Caller.stands l.fn.caller k l.fn.machine) (g.C.Caller.stands l.caller k l.machine) l.call.unit l.call.this l.call.args.now l.function.ops l.scope.0 l.fn.machine l.machine l.stacks l.place;
+  ran : (k : Known) → RanTo k.around (g.C.Caller.follows l.fn.caller k) (g.C.Caller.agrees l.caller k) (g.C.Caller.stands l.fn.caller k l.fn.machine) (g.C.Caller.stands l.caller k l.machine) l.call.unit l.call.this l.call.args.now l.function.ops l.fn.scope.0 l.fn.machine l.machine l.stacks l.place;
   kept : (calls : Calls) (k : Known) → g.C.Caller.follows l.fn.caller k calls → g.C.Caller.follows l.caller k calls;
   agrees : (k : Known) → g.C.Caller.agrees l.caller k → g.C.Caller.agrees l.fn.caller k;
   may : g.C.Caller.may_call l.caller;
@@ -22,5 +22,5 @@ invariant-loop g l = record {
   steps : l.fn.steps ≤ l.steps;
 }
 
-abbrev pub decreases-loop : goal.decreases-loop
-decreases-loop g l = left_of l.function.ops (g.C.Caller.ticks_of l.caller) l.place
+abbrev pub decreases-loop-to : goal.decreases-loop-to
+decreases-loop-to g l = left_of l.function.ops (g.C.Caller.ticks_of l.caller) l.place
