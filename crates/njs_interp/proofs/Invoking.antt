@@ -176,6 +176,7 @@ module _ (means : Answers) (constructs : Row → Bool) (codes : List Code) (k : 
       (answers calls (λ f this args s before. keep.call f this args s before) (λ f args s before. keep.construct f args s before) row this args made s before)) n
       in
       record { call = λ f this args s before. ends.call f this args s before; construct = λ f args s before. ends.construct f args s before }
+
 -- ---- heaps
 
 pub widens_grows : (h k : Heap) → Widens h k → Grows h k

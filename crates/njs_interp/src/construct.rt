@@ -139,9 +139,7 @@ pub(crate) fn construct_script<C: Runner<L>, L: Ledger>(
         this: Value::Obj(made),
         args,
     };
-    match call_script(
-        alloc, codes, &call, number, scope, caller, machine, steps,
-    ) {
+    match call_script(alloc, codes, &call, number, scope, caller, machine, steps) {
         Ok(value) => Ok(or_made(made, value)),
         Err(stop) => Err(stop),
     }

@@ -75,9 +75,7 @@ fn enter_script<C: Runner<L>, L: Ledger>(
     match way {
         Way::Call(this) => {
             let call = InCall { unit, this, args };
-            call_script(
-                alloc, codes, &call, number, scope, caller, machine, steps,
-            )
+            call_script(alloc, codes, &call, number, scope, caller, machine, steps)
         }
         Way::New => construct_script(
             alloc, codes, unit, number, scope, object, args, caller, machine, steps,
@@ -151,7 +149,11 @@ pub(crate) fn refusal(way: Way) -> Cause
 }
 
 /// The object that a value is, if it may be called so. It takes no memory.
-pub(crate) fn object_to_enter<H: Host>(machine: &Machine<'_>, callee: Value, way: Way) -> Option<ObjId>
+pub(crate) fn object_to_enter<H: Host>(
+    machine: &Machine<'_>,
+    callee: Value,
+    way: Way,
+) -> Option<ObjId>
     requires { FitsValue (sizes machine.now) callee }
     ensures { (program : Program) → program.constructs ≡ H.constructs → IsEntered program machine.now callee way result }
 {
@@ -162,9 +164,5 @@ pub(crate) fn object_to_enter<H: Host>(machine: &Machine<'_>, callee: Value, way
         Way::Call(_) => is_callable(machine, callee),
         Way::New => is_constructor::<H>(machine, object),
     };
-    if may {
-        Some(object)
-    } else {
-        None
-    }
+    if may { Some(object) } else { None }
 }
