@@ -9,7 +9,8 @@ use Rattle.njs_value.specs.declared.ObjId.{ObjId}
 use Rattle.njs_value.specs.declared.Row.{Row}
 use Rattle.njs_value.specs.declared.ScopeId.{ScopeId}
 use Rattle.njs_value.specs.declared.Value.{Value}
-use Rattle.njs_shared.specs.Heap.{Heap}
+use Rattle.njs_shared.specs.Heap.{Heap, Sizes}
+use Rattle.njs_shared.specs.Fits.{FitsValue}
 use Rattle.njs_clone.specs.Content.{content}
 use Rattle.njs_code.specs.declared.code.Code.{Code}
 use Rattle.njs_meaning.specs.Primitives.{Primitive, Undefined}
@@ -34,7 +35,7 @@ use Rattle.njs_interp.specs.declared.own.Way.TheVariants as way
 use Rattle.njs_interp.specs.Grown.{Widens}
 use Rattle.njs_interp.specs.Hosts.{Answers}
 use Rattle.njs_interp.specs.Owned.{stands_extends}
-use Rattle.njs_interp.specs.Standing.{Stands, by_way, CallsKeep}
+use Rattle.njs_interp.specs.Standing.{Stands, FitsWay, by_way, CallsKeep}
 use Rattle.njs_interp.specs.Calling.{CodesOf, IsProgram, script_by, row_by, bound_way, can_construct, may_enter, refusal, entered_by, entered}
 use Rattle.njs_interp.proofs.Alone.{message_same}
 use Rattle.njs_interp.proofs.Kept.{Widens-objects, Widens-scopes}
@@ -176,7 +177,6 @@ module _ (means : Answers) (constructs : Row → Bool) (codes : List Code) (k : 
       (answers calls (λ f this args s before. keep.call f this args s before) (λ f args s before. keep.construct f args s before) row this args made s before)) n
       in
       record { call = λ f this args s before. ends.call f this args s before; construct = λ f args s before. ends.construct f args s before }
-
 -- ---- heaps
 
 pub widens_grows : (h k : Heap) → Widens h k → Grows h k
@@ -195,3 +195,9 @@ pub error_counted : (old new : ℕ) (stop : Stop) → CountsError old new stop �
 error_counted old new (Throw v) counts = omega (arith, counts)
 error_counted old new Fuel counts = absurd counts
 error_counted old new NoMemory counts = omega (arith, counts)
+
+-- ---- values
+
+pub bound_fits : (n : Sizes) (w : Way) (this : Value) → FitsValue n this → FitsWay n (bound_way w this)
+bound_fits n (way.Call own) this fits = fits
+bound_fits n way.New this fits = tt
