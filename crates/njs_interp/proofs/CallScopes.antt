@@ -1,27 +1,29 @@
 -- The scope that a call begins with: its first slots have the arguments.
 use Rattle.std.proofs.Common.{◌≡◌, ℕ, zero, suc, ◌+◌, ◌<◌, ◌≤◌, List, [], ◌∷◌, ◌++◌, length, map, replicate, Option, Some, None, slice_get, slice_set, ap, refl, sym, ◌∙◌, subst, arith, inl, inr, add-one, length-append}
 use Rattle.std.specs.Option.{option_map_or}
-use Rattle.std.specs.List.{AllByRecursion}
 use Rattle.std.proofs.lemmas.List.{map-append, length-map}
 use Rattle.std.proofs.lemmas.Option.{slice_get_cases}
 use Rattle.njs_value.specs.declared.ScopeId.{ScopeId}
 use Rattle.njs_value.specs.declared.Value.{Value}
 use Rattle.njs_value.specs.declared.Value.TheVariants.{Undefined}
+use Rattle.njs_shared.specs.declared.object.Inner.{Inner}
+use Rattle.njs_shared.specs.declared.object.Inner.TheVariants as inner
 use Rattle.njs_shared.specs.declared.object.Scope.{Scope}
 use Rattle.njs_shared.specs.Heap.{Heap, sizes}
 use Rattle.njs_shared.specs.Fits.{FitsValue}
 use Rattle.njs_clone.specs.Content.{content}
 use Rattle.njs_clone.specs.Scopes.{slot_count, with_slot, with_new_scope}
-use Rattle.njs_meaning.specs.PlainHeap.{PlainScope, Variable}
+use Rattle.njs_meaning.specs.PlainHeap.{Variable}
 use Rattle.njs_meaning.specs.Primitives as primitive
 use Rattle.njs_meaning.specs.Scopes.{with_scope}
 use Rattle.njs_meaning.specs.State.{State}
 use Rattle.njs_meaning.specs.Values.{Simple}
 use Rattle.njs_convert.specs.FirstHeap.{StandsFor, slots_of, nameless}
+use Rattle.njs_convert.specs.Tells.{IsOrdinary}
 use Rattle.njs_simul.proofs.Kept.{pushed_last}
 use Rattle.njs_interp.specs.Plain.{heap_of}
-use Rattle.njs_interp.specs.Sits.{HasSlots, SlotsFrom}
-use Rattle.njs_interp.specs.Grown.{Grown, Widens}
+use Rattle.njs_interp.specs.Sits.{SlotsFrom}
+use Rattle.njs_interp.specs.Grown.{Grown, FitsFurther, FunctionsFit}
 use Rattle.njs_interp.specs.Calling.{filled, scope_filled}
 use Rattle.njs_interp.proofs.Entering.{push_set, Grown-scope}
 use Rattle.njs_interp.proofs.Kept.{FitsValue-widened, SlotsFrom-widened}
@@ -133,3 +135,16 @@ module _ (old mid : Heap) (parent : ScopeId) (n i : ℕ) (args : List Value) (is
 -- the number of the scope in a state
 pub counted-scopes : (h : Heap) (s : State) → StandsFor h (heap_of s) → length h.scopes ≡ length s.scopes
 counted-scopes h s stands = sym (length-map h.scopes (slots_of h.texts)) ∙ ap length stands.scopes ∙ length-map s.scopes nameless
+
+-- ---- functions
+
+ordinary_fits : (counts : ℕ → ℕ → Option (List ℕ)) (scopes : List Scope) (i : Inner) → IsOrdinary i → FitsFurther counts scopes i
+ordinary_fits counts scopes inner.Plain is = tt
+ordinary_fits counts scopes (inner.Script unit number scope) is = absurd is
+ordinary_fits counts scopes (inner.BuiltIn row) is = absurd is
+ordinary_fits counts scopes (inner.Bound target this args) is = tt
+ordinary_fits counts scopes (inner.ZoneNumber zone) is = absurd is
+
+-- no further function comes
+pub functions-none : (counts : ℕ → ℕ → Option (List ℕ)) (old new : Heap) → Grown old new → FunctionsFit counts old new
+functions-none counts old new grown = record { fresh = λ at object there far. ordinary_fits counts new.scopes object.inner (grown.fresh at object there far) }

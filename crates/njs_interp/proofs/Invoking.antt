@@ -28,6 +28,7 @@ use Rattle.njs_convert.specs.Tells.{Tells, ShowsValue, Extends, ThrowsError, Cou
 use Rattle.njs_convert.proofs.Thrown.{thrown}
 use Rattle.njs_simul.specs.Asking.{Holding, CallsAlwaysEnd}
 use Rattle.njs_simul.specs.Fits.{Names, Good, Fares, Fared, CallsFare}
+use Rattle.njs_simul.specs.Program.{names_in}
 use Rattle.njs_simul.proofs.Asking.{keeps_everywhere}
 use Rattle.njs_simul.proofs.Program.{program_means}
 use Rattle.njs_interp.specs.declared.own.Way.{Way}
@@ -77,16 +78,16 @@ calls_are program (suc n) = refl
 
 module _ (program : Program) (texts : List (List ℕ)) (args : List PlainValue) (s : State) where
   refused_by : (further : Option Calls) (w : Way) (v : PlainValue) → may_enter program w s.objects v ≡ false → by_way (with_further program further) texts w v args s ≡ throw (refusal w) s
-  refused_by further (way.Call this) (Simple p) no = refl
-  refused_by further (way.Call this) (ObjectAt f) no =
-      ap (λ b. if b then option_map_or (λ calls. call_inner program calls (inner_at s.objects f) (content texts this) args s) further (throw CallDepth s) else throw NotFunction s) no
-  refused_by further way.New (Simple p) no = refl
-  refused_by further way.New (ObjectAt f) no =
-      ap (λ b. if b then option_map_or (λ calls. construct_inner program calls f (inner_at s.objects f) args s) further (throw CallDepth s) else throw NotConstructor s) no
+  refused_by further (way.Call this) (Simple p) none = refl
+  refused_by further (way.Call this) (ObjectAt f) none =
+      ap (λ b. if b then option_map_or (λ calls. call_inner program calls (inner_at s.objects f) (content texts this) args s) further (throw CallDepth s) else throw NotFunction s) none
+  refused_by further way.New (Simple p) none = refl
+  refused_by further way.New (ObjectAt f) none =
+      ap (λ b. if b then option_map_or (λ calls. construct_inner program calls f (inner_at s.objects f) args s) further (throw CallDepth s) else throw NotConstructor s) none
 
   -- what may not be called so
   pub refused_is : (n : ℕ) (w : Way) (v : PlainValue) → may_enter program w s.objects v ≡ false → by_way (calls_at program n) texts w v args s ≡ throw (refusal w) s
-  refused_is n w v no = ap (λ calls. by_way calls texts w v args s) (calls_are program n) ∙ refused_by (further_of program n) w v no
+  refused_is n w v none = ap (λ calls. by_way calls texts w v args s) (calls_are program n) ∙ refused_by (further_of program n) w v none
 
   -- where no further call may be active
   pub deepest_is : (w : Way) (f : ℕ) → may_enter program w s.objects (ObjectAt f) ≡ true → by_way (calls_at program 0) texts w (ObjectAt f) args s ≡ throw CallDepth s
@@ -160,9 +161,10 @@ module _ (means : Answers) (constructs : Row → Bool) (codes : List Code) (k : 
       → (n : ℕ) → CallsFare k.around (calls_at program n)
   calls_fare answers n =
       let of = is.of_codes in
+      let env : Names = names_in of.scripts of.outermost in
       subst (λ (env : Names). CallsFare env (calls_at program n)) (sym of.around)
       ((program_means of.scripts of.outermost).calls_fare program of.functions
-      (λ calls fare row this args made s good. subst (λ (m : Answers). Fared _ s (m calls row this args made s)) (sym is.answers) (answers _ calls fare row this args made s good)) n)
+      (λ calls fare row this args made s good. subst (λ (m : Answers). Fared env s (m calls row this args made s)) (sym is.answers) (answers env calls fare row this args made s good)) n)
 
   pub calls_keep : (stopped : State → Type 0) (same : (s t : State) → t.zones ≡ s.zones → t.asked ≡ s.asked → stopped s → stopped t)
       → ((calls : Calls) → ((f this : PlainValue) (args : List PlainValue) (s : State) → stopped s → stopped (state_of (calls.call f this args s)))
@@ -177,6 +179,7 @@ module _ (means : Answers) (constructs : Row → Bool) (codes : List Code) (k : 
       (answers calls (λ f this args s before. keep.call f this args s before) (λ f args s before. keep.construct f args s before) row this args made s before)) n
       in
       record { call = λ f this args s before. ends.call f this args s before; construct = λ f args s before. ends.construct f args s before }
+
 -- ---- heaps
 
 pub widens_grows : (h k : Heap) → Widens h k → Grows h k
