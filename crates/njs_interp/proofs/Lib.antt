@@ -33,6 +33,13 @@ pub mod Going
 pub mod Cutting
 pub mod Leading
 pub mod AskedHeap
+pub mod Parameters
+pub mod CallScopes
+pub mod Scripts
+pub mod Constructing
+pub mod Bodies
+pub mod Invoking
+pub mod Entries
 pub mod Turning
 pub mod Running
 pub mod Lifting

@@ -17,6 +17,7 @@ pub mod Leading
 pub mod Hosts
 pub mod Standing
 pub mod Owned
+pub mod Calling
 pub mod Stepping
 pub mod Turning
 pub mod Updates
@@ -24,3 +25,4 @@ pub mod NextNames
 pub mod Held
 pub mod Closures
 pub mod Dispatch
+pub mod Entries
