@@ -20,7 +20,7 @@ use Rattle.njs_interp.specs.Tells.{IsFrame, ActsOnHeap, ActsInCall}
 use Rattle.njs_interp.specs.Asked.{ActsAsked}
 
 -- what is known of the state in which an action ends may be known by other words
-state_by : (stopped stopped' : State → Type 0) (a : Action) → ((t : State) → stopped t → stopped' t) → state_in a stopped → state_in a stopped'
+pub state_by : (stopped stopped' : State → Type 0) (a : Action) → ((t : State) → stopped t → stopped' t) → state_in a stopped → state_in a stopped'
 state_by stopped stopped' (Goes next st t) g here = g t here
 state_by stopped stopped' (Ends o) g here = g (state_of o) here
 state_by stopped stopped' (Leads e st t) g here = g t here

@@ -45,7 +45,7 @@ pub enter_takes : (name : List ℕ) (k : Kind) → k ≡ kind.Enter name → Tak
 unfolding operands_taken scopes_taken lists_taken endings_taken
 enter_takes name k is = subst (λ k. Takes k 1) (sym is) (record { operands = refl; scopes = refl; lists = refl; endings = refl })
 
-push_set : {A : Type 0} (xs : List A) (x y : A) → slice_set (xs ++ x ∷ []) (length xs) y ≡ xs ++ y ∷ []
+pub push_set : {A : Type 0} (xs : List A) (x y : A) → slice_set (xs ++ x ∷ []) (length xs) y ≡ xs ++ y ∷ []
 push_set [] x y = refl
 push_set (z ∷ xs) x y = ap (λ l. z ∷ l) (push_set xs x y)
 

@@ -186,7 +186,7 @@ module _ (good : State → Type 0) (frame : Frame) (code : List Op) (outcome : O
 
 -- ---- the search for the operation that takes up an ending
 
-same_at : (code : List Op) (place : ℕ) (a b : Op) → StandsAt code place a → StandsAt code place b → a ≡ b
+pub same_at : (code : List Op) (place : ℕ) (a b : Op) → StandsAt code place a → StandsAt code place b → a ≡ b
 same_at code place a b p q =
     let same : p.index ≡ q.index = omega (arith, p.counted, q.counted) in
     let both : Some a ≡ Some b = sym p.found ∙ ap (slice_get code) same ∙ q.found in

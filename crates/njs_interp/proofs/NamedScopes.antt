@@ -25,7 +25,7 @@ use Rattle.njs_interp.specs.Grown.{Grown, SameShape}
 use Rattle.njs_interp.specs.Making.{MakesScope, NamesFunction}
 use Rattle.njs_interp.proofs.Kept.{front-at, Grown-refl}
 
-last_there : {X : Type 0} (xs : List X) (x : X) → slice_get (xs ++ x ∷ []) (length xs) ≡ Some x
+pub last_there : {X : Type 0} (xs : List X) (x : X) → slice_get (xs ++ x ∷ []) (length xs) ≡ Some x
 last_there [] x = refl
 last_there (y ∷ xs) x = last_there xs x
 

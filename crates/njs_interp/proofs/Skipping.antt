@@ -19,12 +19,12 @@ use Rattle.njs_interp.specs.Plain.{plain_listing, plain_stacks}
 use Rattle.njs_interp.specs.Naming.{more_of, goes_by, ActsOnNames}
 
 -- the last of a list
-record Last {X : Type 0} (xs : List X) (n : ℕ) (x : X) : Type 0 where
+pub record Last {X : Type 0} (xs : List X) (n : ℕ) (x : X) : Type 0 where
   pub front : List X
   pub is : xs ≡ front ++ x ∷ []
   pub count : length front ≡ n
 
-last_of : {X : Type 0} (n : ℕ) (xs : List X) (x : X) → length xs ≡ suc n → slice_get xs n ≡ Some x → Last xs n x
+pub last_of : {X : Type 0} (n : ℕ) (xs : List X) (x : X) → length xs ≡ suc n → slice_get xs n ≡ Some x → Last xs n x
 last_of n [] x count there = absurd (omega (arith, count))
 last_of zero (y ∷ []) x count there = let same : y ≡ x = cc in record { front = []; is = ap (λ z. z ∷ []) same; count = refl }
 last_of zero (y ∷ (z ∷ xs)) x count there = absurd (omega (arith, count))
@@ -33,7 +33,7 @@ last_of (suc n) (y ∷ xs) x count there =
     let rest = last_of n xs x fewer there in
     record { front = y ∷ rest.front; is = ap (λ zs. y ∷ zs) rest.is; count = ap suc rest.count }
 
-last_set : {X : Type 0} (front : List X) (x y : X) → slice_set (front ++ x ∷ []) (length front) y ≡ front ++ y ∷ []
+pub last_set : {X : Type 0} (front : List X) (x y : X) → slice_set (front ++ x ∷ []) (length front) y ≡ front ++ y ∷ []
 last_set [] x y = refl
 last_set (z ∷ front) x y = ap (λ zs. z ∷ zs) (last_set front x y)
 

@@ -23,7 +23,7 @@ use Rattle.njs_interp.proofs.Kept.{scopes-further, SameBeside-refl}
 
 -- the scopes stay, and further texts may come
 module _ (h k : Heap) (fits : FitsHeap h) (more : List (List ℕ)) (scopes : k.scopes ≡ h.scopes) (texts : k.texts ≡ h.texts ++ more) where
-  slots_same : map (slots_of k.texts) k.scopes ≡ map (slots_of h.texts) h.scopes
+  pub slots_same : map (slots_of k.texts) k.scopes ≡ map (slots_of h.texts) h.scopes
   slots_same =
       ap (λ ts. map (slots_of ts) k.scopes) texts ∙ ap (map (slots_of (h.texts ++ more))) scopes ∙ scopes-further (sizes h) h.texts more refl h.scopes fits.scopes
 

@@ -17,3 +17,12 @@ pub mod Leading
 pub mod Hosts
 pub mod Standing
 pub mod Owned
+pub mod Calling
+pub mod Stepping
+pub mod Turning
+pub mod Updates
+pub mod NextNames
+pub mod Held
+pub mod Closures
+pub mod Dispatch
+pub mod Entries

@@ -1,5 +1,5 @@
 // Operations that ask a caller.
-ghost use Rattle.std.specs.Prelude.{◌≡◌, ◌≤◌, ◌<◌, ◌∷◌, [], ℕ, length, OnOk};
+ghost use Rattle.std.specs.Prelude.{◌≡◌, ◌≤◌, ◌<◌, ◌∷◌, [], ℕ, length, OnOk, OnErr, Err};
 ghost use Rattle.njs_shared.specs.Heap.{sizes};
 ghost use Rattle.njs_shared.specs.Fits.{FitsValue};
 ghost use Rattle.njs_clone.specs.Content.{content};
@@ -260,6 +260,7 @@ pub(crate) fn charge<C: Runner<L>, L: Ledger>(
     ensures same { C.lent caller.new ≡ C.lent caller.old }
     ensures spent { C.ticks_of caller.new ≤ C.ticks_of caller.old }
     ensures falls { OnOk result (C.ticks_of caller.new < C.ticks_of caller.old) }
+    ensures spends { OnErr result (result ≡ Err Stop.Fuel) }
     ensures steps { (n : ℕ) → C.adds caller.old n caller.new n }
 {
     let _op = at.op;

@@ -4,6 +4,7 @@ ghost use Rattle.njs_code.specs.declared.op.Kind.TheVariants as Kind;
 ghost use Rattle.njs_interp.specs.Sits.{Ready};
 ghost use Rattle.njs_interp.specs.Tells.{ActsOnHeap, Leaves};
 ghost use Rattle.njs_interp.specs.Jumps.{JumpsOnHeap, LeavesNext};
+ghost use Rattle.njs_interp.specs.Stepping.{GoesTo};
 
 use crate::operands::{give, take};
 use crate::{At, Ending, Next, Stacks};
@@ -91,6 +92,7 @@ pub(crate) fn return_top<'a>(
     requires kind { at.now.op.now.kind ≡ Kind.Return }
     requires ready { Ready at.now.functions.now at.now.function.now at.now.op.now machine.now stacks.old }
     ensures told { JumpsOnHeap Kind.Return machine.now machine.now stacks.old stacks.new result }
+    ensures goes { GoesTo at.now.op.now.kind result }
     ensures leaves { LeavesNext at.now.function.now at.now.op.now machine.now stacks.new result }
 {
     let value = take(at, machine, stacks);
@@ -107,6 +109,7 @@ pub(crate) fn throw_top<'a>(
     requires kind { at.now.op.now.kind ≡ Kind.Throw }
     requires ready { Ready at.now.functions.now at.now.function.now at.now.op.now machine.now stacks.old }
     ensures told { JumpsOnHeap Kind.Throw machine.now machine.now stacks.old stacks.new result }
+    ensures goes { GoesTo at.now.op.now.kind result }
     ensures leaves { LeavesNext at.now.function.now at.now.op.now machine.now stacks.new result }
 {
     let value = take(at, machine, stacks);
@@ -123,6 +126,7 @@ pub(crate) fn break_out<'a>(
     requires kind { at.now.op.now.kind ≡ Kind.Break label.now }
     requires ready { Ready at.now.functions.now at.now.function.now at.now.op.now machine.now stacks.now }
     ensures told { JumpsOnHeap (Kind.Break label.now) machine.now machine.now stacks.now stacks.now result }
+    ensures goes { GoesTo at.now.op.now.kind result }
     ensures leaves { LeavesNext at.now.function.now at.now.op.now machine.now stacks.now result }
 {
     let _op = at.op;
@@ -140,6 +144,7 @@ pub(crate) fn continue_out<'a>(
     requires kind { at.now.op.now.kind ≡ Kind.Continue label.now }
     requires ready { Ready at.now.functions.now at.now.function.now at.now.op.now machine.now stacks.now }
     ensures told { JumpsOnHeap (Kind.Continue label.now) machine.now machine.now stacks.now stacks.now result }
+    ensures goes { GoesTo at.now.op.now.kind result }
     ensures leaves { LeavesNext at.now.function.now at.now.op.now machine.now stacks.now result }
 {
     let _op = at.op;
@@ -148,6 +153,7 @@ pub(crate) fn continue_out<'a>(
 }
 
 /// The end of a `finally`: the ending that waited goes on (ECMA-262 5.1 §12.14).
+#[tactic(auto, using(crate::proofs::Onward::resume_on))]
 pub(crate) fn resume<'a>(
     at: &At<'_>,
     machine: &Machine<'_>,
@@ -156,6 +162,7 @@ pub(crate) fn resume<'a>(
     requires kind { at.now.op.now.kind ≡ Kind.Resume }
     requires ready { Ready at.now.functions.now at.now.function.now at.now.op.now machine.now stacks.old }
     ensures told { JumpsOnHeap Kind.Resume machine.now machine.now stacks.old stacks.new result }
+    ensures goes { GoesTo at.now.op.now.kind result }
     ensures leaves { LeavesNext at.now.function.now at.now.op.now machine.now stacks.new result }
 {
     let _op = at.op;

@@ -52,7 +52,7 @@ pub(crate) fn length_text() -> Text
     Text::fixed("length")
 }
 
-fn prototype_text() -> Text
+pub(crate) fn prototype_text() -> Text
     ensures { result ≡ prototype_name }
 {
     Text::fixed("prototype")

@@ -8,6 +8,7 @@ ghost use Rattle.njs_meaning.specs.Operations.{leaves_out};
 ghost use Rattle.njs_meaning.specs.Values.{is_same};
 ghost use Rattle.njs_interp.specs.Sits.{Ready};
 ghost use Rattle.njs_interp.specs.Jumps.{JumpsOnHeap, LeavesNext};
+ghost use Rattle.njs_interp.specs.Stepping.{GoesTo};
 
 use crate::operands::{push, take, take_two};
 use crate::{At, Next, Stacks};
@@ -18,6 +19,7 @@ use njs_tree::LogicalOp;
 use njs_value::Value;
 
 /// On at another operation.
+#[tactic(auto, using(crate::proofs::Onward::jump_goes))]
 pub(crate) fn jump<'a>(
     at: &At<'_>,
     machine: &Machine<'_>,
@@ -27,6 +29,7 @@ pub(crate) fn jump<'a>(
     requires kind { at.now.op.now.kind ≡ Kind.Jump to }
     requires ready { Ready at.now.functions.now at.now.function.now at.now.op.now machine.now stacks.now }
     ensures told { JumpsOnHeap (Kind.Jump to) machine.now machine.now stacks.now stacks.now result }
+    ensures goes { GoesTo at.now.op.now.kind result }
     ensures leaves { LeavesNext at.now.function.now at.now.op.now machine.now stacks.now result }
 {
     let _op = at.op;
@@ -36,7 +39,7 @@ pub(crate) fn jump<'a>(
 }
 
 /// On there where the value is false (ECMA-262 5.1 §9.2): `[value] → []`
-#[tactic(auto, using(crate::proofs::Moves::jump_false_takes))]
+#[tactic(auto, using(crate::proofs::Moves::jump_false_takes, crate::proofs::Onward::jump_false_goes, crate::proofs::Onward::jump_false_on))]
 pub(crate) fn jump_false<'a>(
     at: &At<'_>,
     machine: &Machine<'_>,
@@ -46,6 +49,7 @@ pub(crate) fn jump_false<'a>(
     requires kind { at.now.op.now.kind ≡ Kind.JumpFalse to }
     requires ready { Ready at.now.functions.now at.now.function.now at.now.op.now machine.now stacks.old }
     ensures told { JumpsOnHeap (Kind.JumpFalse to) machine.now machine.now stacks.old stacks.new result }
+    ensures goes { GoesTo at.now.op.now.kind result }
     ensures leaves { LeavesNext at.now.function.now at.now.op.now machine.now stacks.new result }
 {
     let value = take(at, machine, stacks);
@@ -68,7 +72,7 @@ fn leaves_out(machine: &Machine<'_>, op: LogicalOp, value: Value) -> bool
 }
 
 /// On there with the value, where the operator leaves out its second: `[value] → []`, there `[value]`
-#[tactic(auto, using(crate::proofs::Moves::jump_logical_takes))]
+#[tactic(auto, using(crate::proofs::Moves::jump_logical_takes, crate::proofs::Onward::jump_logical_goes, crate::proofs::Onward::jump_logical_on))]
 pub(crate) fn jump_logical<'a>(
     at: &At<'_>,
     machine: &Machine<'_>,
@@ -79,6 +83,7 @@ pub(crate) fn jump_logical<'a>(
     requires kind { at.now.op.now.kind ≡ Kind.JumpLogical op to }
     requires ready { Ready at.now.functions.now at.now.function.now at.now.op.now machine.now stacks.old }
     ensures told { JumpsOnHeap (Kind.JumpLogical op to) machine.now machine.now stacks.old stacks.new result }
+    ensures goes { GoesTo at.now.op.now.kind result }
     ensures leaves { LeavesNext at.now.function.now at.now.op.now machine.now stacks.new result }
 {
     let _op = at.op;
@@ -108,7 +113,7 @@ fn is_same(machine: &Machine<'_>, left: Value, right: Value) -> bool
 }
 
 /// On there where both are the same (ECMA-262 5.1 §9.12): `[value, other] → [value]`, there `[]`
-#[tactic(auto, using(crate::proofs::Moves::jump_same_takes))]
+#[tactic(auto, using(crate::proofs::Moves::jump_same_takes, crate::proofs::Onward::jump_same_goes, crate::proofs::Onward::jump_same_on))]
 pub(crate) fn jump_same<'a>(
     at: &At<'_>,
     machine: &Machine<'_>,
@@ -118,6 +123,7 @@ pub(crate) fn jump_same<'a>(
     requires kind { at.now.op.now.kind ≡ Kind.JumpSame to }
     requires ready { Ready at.now.functions.now at.now.function.now at.now.op.now machine.now stacks.old }
     ensures told { JumpsOnHeap (Kind.JumpSame to) machine.now machine.now stacks.old stacks.new result }
+    ensures goes { GoesTo at.now.op.now.kind result }
     ensures leaves { LeavesNext at.now.function.now at.now.op.now machine.now stacks.new result }
 {
     let (value, other) = take_two(at, machine, stacks);

@@ -16,6 +16,7 @@ mod objects;
 mod plain;
 mod relations;
 mod sums;
+mod updates;
 
 use groups::{Group, group_of};
 use njs_clone::Machine;
@@ -24,8 +25,10 @@ use njs_members::is_same;
 use njs_text::Steps;
 use njs_tree::{BinaryOp, UnaryOp};
 use njs_value::Value;
+pub(crate) use plain::text_value;
 use std::alloc::Global;
 use std::sync::ledger::Ledger;
+pub(crate) use updates::stepped_from;
 
 /// An operator of two values (ECMA-262 5.1 §11.5 to §11.11). What is no number, text or object is made one first, the left
 /// before the right. Two numbers call nothing, and take memory for an error alone.
