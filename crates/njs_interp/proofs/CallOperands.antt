@@ -1,5 +1,5 @@
 -- The operands of calls and of `new`.
-use Rattle.std.proofs.Common.{◌≡◌, ℕ, ◌+◌, ◌-◌, ◌≤◌, List, [], ◌∷◌, ◌++◌, length, map, reverse, take, drop, length-append, append_assoc, ap, refl, sym, ◌∙◌, subst, arith}
+use Rattle.std.proofs.Common.{◌≡◌, ℕ, ◌+◌, List, [], ◌∷◌, ◌++◌, length, map, reverse, take, drop, length-append, append_assoc, ap, refl, sym, ◌∙◌, subst, arith}
 use Rattle.std.proofs.lemmas.List.{map-append, reverse-append, reverse-reverse, length-reverse, length-map}
 use Rattle.std.proofs.Math.Seq.{drop-append_seam, take-append_seam}
 use Rattle.std.specs.List.{AllByRecursion}
@@ -11,21 +11,20 @@ use Rattle.njs_code.specs.declared.op.Kind.{Kind}
 use Rattle.njs_code.specs.declared.op.Kind.TheVariants as kind
 use Rattle.njs_code.specs.declared.op.Op.{Op}
 use Rattle.njs_code.specs.declared.code.FunctionCode.{FunctionCode}
-use Rattle.njs_code.specs.Effects.{depth_left, operands_taken, operands_given, scopes_taken, scopes_given, lists_taken, lists_given, endings_taken, endings_given}
+use Rattle.njs_code.specs.Effects.{operands_taken, operands_given, scopes_taken, scopes_given, lists_taken, lists_given, endings_taken, endings_given}
 use Rattle.njs_meaning.specs.Values.{PlainValue}
 use Rattle.njs_meaning.specs.State.{State, Outcome, Gives, Throws, Spent, Asks}
 use Rattle.njs_meaning.specs.Replies.{state_of}
-use Rattle.njs_meaning.specs.Running.{Calls}
 use Rattle.njs_simul.specs.Stacks as plain
 use Rattle.njs_simul.specs.Stacks.{Frame, push, with_operands}
-use Rattle.njs_simul.specs.Step.{Action, Goes, Ends, Leads, Stuck, act, on, on_top, on_two, finish}
+use Rattle.njs_simul.specs.Step.{Action, Goes, act, on, on_top, on_two, finish}
 use Rattle.njs_interp.specs.declared.stacks.Stacks.{Stacks}
 use Rattle.njs_interp.specs.Plain.{plain_stacks}
 use Rattle.njs_interp.specs.Sits.{Sits}
 use Rattle.njs_interp.specs.Acts.{state_in}
 use Rattle.njs_interp.specs.Operands.{Takes, HasTaken}
 use Rattle.njs_interp.specs.Operands.{Gives as GivesOperands}
-use Rattle.njs_interp.proofs.Kept.{all-behind, all-front, all-joined, map-reversed}
+use Rattle.njs_interp.proofs.Kept.{all-behind, all-front, map-reversed}
 use Rattle.njs_interp.proofs.AskedFinish.{with_taken}
 
 pub call_takes : (count : ℕ) (k : Kind) → k ≡ kind.Call count → Takes k (count + 2)

@@ -1,5 +1,5 @@
 -- Functions that are made in scopes of their own names.
-use Rattle.std.proofs.Common.{◌≡◌, ℕ, ◌-◌, ◌<◌, ◌≤◌, arith, List, [], ◌∷◌, ◌++◌, length, map, Option, Some, None, Bool, true, false, cond, Result, Ok, Err, slice_get, refl, sym, ap, ◌∙◌, subst}
+use Rattle.std.proofs.Common.{◌≡◌, ℕ, ◌-◌, ◌<◌, ◌≤◌, arith, List, [], ◌∷◌, ◌++◌, length, Option, Some, None, Bool, true, false, cond, Result, Ok, Err, slice_get, refl, sym, ap, ◌∙◌, subst}
 use Rattle.std.proofs.lemmas.List.{length-map}
 use Rattle.std.proofs.lemmas.Bool.{le-ltb, lt-ltb}
 use Rattle.std.proofs.lemmas.Option.{slice_get_within}
@@ -23,9 +23,9 @@ use Rattle.njs_text.specs.declared.memory.NoMemory.{NoMemory as Refused}
 use Rattle.njs_convert.specs.Tells.{FitsAnswer}
 use Rattle.njs_interp.specs.declared.stacks.Stacks.{Stacks}
 use Rattle.njs_meaning.specs.Primitives.{Undefined}
-use Rattle.njs_meaning.specs.PlainHeap.{PlainScope, Script}
+use Rattle.njs_meaning.specs.PlainHeap.{Script}
 use Rattle.njs_meaning.specs.Values.{PlainValue, Simple, ObjectAt}
-use Rattle.njs_meaning.specs.State.{State, Outcome, Gives, Throws, Spent, Asks, and_then}
+use Rattle.njs_meaning.specs.State.{State, Outcome, Gives, Spent, and_then}
 use Rattle.njs_meaning.specs.Scopes.{fixed, next_scope, with_variable}
 use Rattle.njs_meaning.specs.Replies.{state_of}
 use Rattle.njs_meaning.specs.References.{Of}
@@ -40,7 +40,7 @@ use Rattle.njs_interp.specs.Plain.{heap_of}
 use Rattle.njs_interp.specs.Acts.{SameBeside, OnHeap, Unanswered}
 use Rattle.njs_interp.specs.Sits.{HasSlots, SlotsFrom, Sits, Ready}
 use Rattle.njs_interp.specs.Outcomes.{Tells, MeansOnHeap}
-use Rattle.njs_interp.specs.Making.{made_function, MakesScope, NamesFunction}
+use Rattle.njs_interp.specs.Making.{made_function, MakesScope}
 use Rattle.njs_interp.specs.Closures.{scope_in, scoped, with_name_in, made_named, made_closure, HasName, HasSlotFor, NamesIn, CountedIn, ScopeFor, MakesNamed}
 use Rattle.njs_interp.specs.Outcomes.{Pushes, Moves}
 use Rattle.njs_interp.specs.Grown.{Widens, Grown}

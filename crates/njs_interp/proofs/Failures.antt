@@ -1,14 +1,13 @@
 -- Errors that operations throw by themselves.
-use Rattle.std.proofs.Common.{◌≡◌, ℕ, List, [], ◌∷◌, ◌++◌, Result, Err, length, ap, refl, sym, ◌∙◌}
+use Rattle.std.proofs.Common.{◌≡◌, ℕ, List, [], ◌∷◌, ◌++◌, Err, length, ap, refl, sym, ◌∙◌}
 use Rattle.std.proofs.lemmas.List.{length-map}
 use Rattle.njs_value.specs.declared.TextId.{TextId}
-use Rattle.njs_value.specs.declared.Value.{Value}
 use Rattle.njs_value.specs.declared.Value.TheVariants as value
 use Rattle.njs_value.specs.declared.Cause.TheVariants as cause
 use Rattle.njs_shared.specs.Heap.{Heap, sizes}
 use Rattle.njs_shared.specs.Fits.{FitsValue, FitsHeap}
 use Rattle.njs_clone.specs.Content.{content}
-use Rattle.njs_clone.specs.StandsFor.{mapped_object, content_inner, plain_objects}
+use Rattle.njs_clone.specs.StandsFor.{mapped_object, content_inner}
 use Rattle.njs_code.specs.declared.op.Failure.{Failure}
 use Rattle.njs_code.specs.declared.op.Kind.TheVariants as kind
 use Rattle.njs_code.specs.declared.op.Op.{Op}

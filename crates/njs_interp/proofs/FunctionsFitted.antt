@@ -1,5 +1,5 @@
 -- Further functions stand in scopes with the slots that they count on.
-use Rattle.std.proofs.Common.{◌≡◌, ℕ, ◌≤◌, List, length, Option, Some, slice_get, sym, ap, ◌∙◌, subst, inl, inr}
+use Rattle.std.proofs.Common.{◌≡◌, ℕ, List, Option, Some, sym, ap, ◌∙◌, subst, inl, inr}
 use Rattle.std.proofs.lemmas.Option.{slice_get_cases}
 use Rattle.njs_value.specs.declared.ScopeId.{ScopeId}
 use Rattle.njs_shared.specs.declared.object.Inner.{Inner}

@@ -1,11 +1,10 @@
 -- What is told of answers under a caller that was charged.
-use Rattle.std.proofs.Common.{◌≡◌, ℕ, ◌-◌, ◌<◌, ◌≤◌, List, [], ◌∷◌, length, map, Bool, true, false, cond, Result, Ok, Err, ap, refl, sym, ◌∙◌, subst, arith}
+use Rattle.std.proofs.Common.{◌≡◌, ℕ, ◌-◌, ◌<◌, ◌≤◌, List, [], length, Bool, true, false, cond, Result, Ok, Err, ap, refl, sym, ◌∙◌, subst, arith}
 use Rattle.std.proofs.lemmas.Bool.{le-ltb, lt-ltb}
 use Rattle.std.specs.Prelude.{nat_lt}
 use Rattle.njs_value.specs.declared.Value.{Value}
 use Rattle.njs_shared.specs.Heap.{Heap, Sizes}
 use Rattle.njs_shared.specs.Fits.{FitsHeap}
-use Rattle.njs_clone.specs.Content.{content}
 use Rattle.njs_code.specs.declared.op.Kind.TheVariants as kind
 use Rattle.njs_code.specs.declared.op.Op.{Op}
 use Rattle.njs_meaning.specs.Values.{PlainValue, ObjectAt}
@@ -20,7 +19,7 @@ use Rattle.njs_convert.specs.Tells.{FitsAnswer, Lent}
 use Rattle.njs_interp.specs.Grown.{FunctionsFit}
 use Rattle.njs_simul.specs.Stacks as plain
 use Rattle.njs_simul.specs.Stacks.{Frame, push}
-use Rattle.njs_simul.specs.Step.{Action, Goes, act, on, finish}
+use Rattle.njs_simul.specs.Step.{Goes, act, on, finish}
 use Rattle.njs_interp.specs.declared.stacks.Stacks.{Stacks}
 use Rattle.njs_interp.specs.Plain.{heap_of, plain_stacks}
 use Rattle.njs_interp.specs.Acts.{SameBeside, Unanswered, Below, Acts}

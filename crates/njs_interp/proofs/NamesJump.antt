@@ -1,5 +1,5 @@
 -- Where the code goes on once names were skipped.
-use Rattle.std.proofs.Common.{◌≡◌, Result, Ok, refl, sym, subst}
+use Rattle.std.proofs.Common.{◌≡◌, Ok, refl, sym, subst}
 use Rattle.njs_shared.specs.Heap.{Heap}
 use Rattle.njs_code.specs.declared.op.Address.{Address}
 use Rattle.njs_code.specs.declared.op.Kind.{Kind}
@@ -7,11 +7,9 @@ use Rattle.njs_code.specs.declared.op.Kind.TheVariants as kind
 use Rattle.njs_code.specs.declared.op.Op.{Op}
 use Rattle.njs_code.specs.declared.code.FunctionCode.{FunctionCode}
 use Rattle.njs_code.specs.Effects.{depth_next, depth_at_jump, operands_taken, operands_given, scopes_taken, scopes_given, lists_taken, lists_given, endings_taken, endings_given, operands_at_jump}
-use Rattle.njs_convert.specs.declared.stop.Stop.{Stop}
 use Rattle.njs_simul.specs.Step.{act, from}
 use Rattle.njs_interp.specs.declared.lists.More.{More}
 use Rattle.njs_interp.specs.declared.lists.More.TheVariants as more
-use Rattle.njs_interp.specs.declared.next.Next.{Next}
 use Rattle.njs_interp.specs.declared.next.Next.TheVariants as next
 use Rattle.njs_interp.specs.declared.stacks.Stacks.{Stacks}
 use Rattle.njs_interp.specs.Plain.{plain_stacks}

@@ -1,13 +1,11 @@
 -- Names that are taken from lists, and lists that are dropped.
-use Rattle.std.proofs.Common.{◌≡◌, ℕ, suc, ◌<◌, ◌≤◌, ◌-◌, ◌+◌, List, [], ◌∷◌, ◌++◌, Result, Ok, Err, Option, Some, None, length, map, reverse, drop, slice_get, slice_set, length-append, ap, refl, sym, ◌∙◌, subst, arith}
+use Rattle.std.proofs.Common.{◌≡◌, ℕ, suc, ◌<◌, ◌≤◌, List, [], ◌∷◌, ◌++◌, Result, Ok, Err, Option, Some, length, map, reverse, drop, slice_get, slice_set, length-append, ap, refl, sym, ◌∙◌, subst, arith}
 use Rattle.std.proofs.lemmas.List.{reverse-append}
 use Rattle.std.specs.List.{AllByRecursion}
 use Rattle.njs_value.specs.declared.Value.{Value}
 use Rattle.njs_shared.specs.Heap.{Heap, sizes}
 use Rattle.njs_shared.specs.Fits.{FitsValue, FitsHeap}
 use Rattle.njs_clone.specs.Content.{content}
-use Rattle.njs_code.specs.declared.op.Depth.{Depth}
-use Rattle.njs_code.specs.declared.op.Kind.{Kind}
 use Rattle.njs_code.specs.declared.op.Kind.TheVariants as kind
 use Rattle.njs_code.specs.declared.op.Op.{Op}
 use Rattle.njs_code.specs.declared.code.FunctionCode.{FunctionCode}
@@ -20,7 +18,7 @@ use Rattle.njs_convert.specs.FirstHeap.{StandsFor}
 use Rattle.njs_members.specs.Gains.{GainsTexts}
 use Rattle.njs_simul.specs.Stacks as plain
 use Rattle.njs_simul.specs.Stacks.{Frame}
-use Rattle.njs_simul.specs.Step.{Action, Goes, act, on_list, next_name}
+use Rattle.njs_simul.specs.Step.{Goes, act, on_list, next_name}
 use Rattle.njs_interp.specs.declared.stacks.Listing.{Listing}
 use Rattle.njs_interp.specs.declared.stacks.Stacks.{Stacks}
 use Rattle.njs_interp.specs.Plain.{heap_of, plain_listing, plain_stacks}

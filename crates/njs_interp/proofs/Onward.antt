@@ -1,5 +1,5 @@
 -- Where operations go on.
-use Rattle.std.proofs.Common.{◌≡◌, true, Some, refl, sym, ap, ◌∙◌}
+use Rattle.std.proofs.Common.{◌≡◌, true, Some, ap}
 use Rattle.njs_tree.specs.declared.tree.LogicalOp.{LogicalOp}
 use Rattle.njs_code.specs.declared.op.Address.{Address}
 use Rattle.njs_code.specs.declared.op.Kind.{Kind}

@@ -1,5 +1,5 @@
 -- How the operations are sorted.
-use Rattle.std.proofs.Common.{◌≡◌, ℕ, ℤ, List, Bool, Option, true, Result, Ok, Err, refl, sym, ap, ◌∙◌, subst}
+use Rattle.std.proofs.Common.{◌≡◌, ℕ, ℤ, List, Bool, Option, true, Result, Ok, Err, refl, sym, ap, subst}
 use Rattle.njs_tree.specs.declared.tree.BinaryOp.{BinaryOp}
 use Rattle.njs_tree.specs.declared.tree.UnaryOp.{UnaryOp}
 use Rattle.njs_tree.specs.declared.tree.UpdateOp.{UpdateOp}

@@ -1,5 +1,5 @@
 -- Numbers that are stepped, and answers that change the objects alone.
-use Rattle.std.proofs.Common.{◌≡◌, ℤ, pos, Result, Ok, Err, map, refl, sym, ap, ◌∙◌, subst}
+use Rattle.std.proofs.Common.{◌≡◌, ℤ, pos, Result, Ok, Err, refl, sym, ap, ◌∙◌, subst}
 use Rattle.njs_tree.specs.declared.tree.UpdateOp.{UpdateOp}
 use Rattle.njs_tree.specs.declared.tree.UpdateOp.TheVariants as step
 use Rattle.njs_value.specs.declared.Value.{Value}

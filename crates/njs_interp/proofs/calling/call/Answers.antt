@@ -1,4 +1,4 @@
-use Rattle.std.proofs.Common.{◌≡◌, [], ◌∷◌, ◌++◌, length, map, reverse, sym, ap, ◌∙◌, subst}
+use Rattle.std.proofs.Common.{◌≡◌, [], ◌∷◌, ◌++◌, map, reverse, sym, ap, ◌∙◌, subst}
 use Rattle.njs_shared.specs.Heap.{sizes}
 use Rattle.njs_shared.specs.Fits.{FitsValue}
 use Rattle.njs_clone.specs.Content.{content}

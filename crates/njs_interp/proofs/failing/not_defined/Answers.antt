@@ -1,7 +1,7 @@
 use Rattle.std.proofs.Common.{Err, subst}
 use Rattle.njs_meaning.specs.Running.{throw_not_defined}
 use Rattle.njs_interp.specs.Outcomes.{MeansOnHeap}
-use Rattle.njs_interp.proofs.Extending.{extends-gained, extends-trans, means-gained, objects-gained}
+use Rattle.njs_interp.proofs.Extending.{extends-gained, extends-trans, means-gained}
 use Rattle.njs_interp.proofs.Failures.{named-stopped}
 use Rattle.njs_interp.proofs.failing.not_defined.Goals as goal
 

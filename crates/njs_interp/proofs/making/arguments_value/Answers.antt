@@ -1,4 +1,4 @@
-use Rattle.std.proofs.Common.{◌≡◌, Ok, Err, refl, sym, ap, ◌∙◌, subst, length, map}
+use Rattle.std.proofs.Common.{Err, refl, sym, ◌∙◌, length, map}
 use Rattle.njs_value.specs.declared.Value.{Value}
 use Rattle.njs_shared.specs.Heap.{sizes}
 use Rattle.njs_shared.specs.Fits.{FitsValue}
@@ -6,8 +6,6 @@ use Rattle.njs_clone.specs.Content.{content}
 use Rattle.njs_interp.specs.Acts.{OnHeap, Unanswered}
 use Rattle.njs_interp.specs.Counting.{made_arguments}
 use Rattle.njs_interp.proofs.Standing.{extends-nothing}
-use Rattle.njs_interp.proofs.ClosureScopes.{beside-trans, unanswered-beside}
-use Rattle.njs_interp.proofs.Kept.{SameBeside-refl}
 use Rattle.njs_interp.proofs.HeldTells.{tells-on, held, stopped-still, fuel-fits, arguments-spent, arguments-made, same-ticks}
 use Rattle.njs_interp.proofs.making.arguments_value.Goals as goal
 

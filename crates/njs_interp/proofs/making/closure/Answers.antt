@@ -1,6 +1,5 @@
-use Rattle.std.proofs.Common.{◌≡◌, ap, sym, ◌∙◌, subst, refl}
+use Rattle.std.proofs.Common.{◌≡◌, ap, sym, ◌∙◌, subst}
 use Rattle.njs_code.specs.declared.op.Kind.TheVariants as kind
-use Rattle.njs_value.specs.declared.ScopeId.{ScopeId}
 use Rattle.njs_simul.specs.Stacks.{inner}
 use Rattle.njs_simul.specs.Step.{act, finish}
 use Rattle.njs_interp.specs.Plain.{plain_stacks, number_of}

@@ -1,12 +1,10 @@
-use Rattle.std.proofs.Common.{◌≡◌, ℕ, List, Option, Some, Ok, Err, refl, sym, ap, ◌∙◌, subst, arith}
+use Rattle.std.proofs.Common.{Err, refl, sym, ◌∙◌, arith}
 use Rattle.njs_value.specs.declared.Value.{Value}
 use Rattle.njs_shared.specs.Heap.{sizes}
 use Rattle.njs_shared.specs.Fits.{FitsValue}
 use Rattle.njs_code.specs.Valid.{closure_slots}
-use Rattle.njs_meaning.specs.State.{State}
 use Rattle.njs_interp.specs.Acts.{OnHeap, Unanswered}
-use Rattle.njs_interp.specs.Grown.{FunctionsFit}
-use Rattle.njs_interp.specs.Closures.{scoped, made_named, made_closure}
+use Rattle.njs_interp.specs.Closures.{scoped, made_named}
 use Rattle.njs_interp.proofs.Kept.{Widens-trans, Widens-objects}
 use Rattle.njs_interp.proofs.FunctionsFitted.{functions_fit, functions-trans}
 use Rattle.njs_interp.proofs.ClosureScopes.{beside-trans, closure-unanswered, closure-spent, closure-made, has-name-paid, scoped-paid, scoped-unpaid, unanswered-beside}

@@ -1,4 +1,4 @@
-use Rattle.std.proofs.Common.{Ok, Err, refl, sym, subst, ◌<◌, length}
+use Rattle.std.proofs.Common.{Err, refl, sym, subst, ◌<◌, length}
 use Rattle.njs_shared.specs.declared.object.Scope.{Scope}
 use Rattle.std.proofs.Common.{List}
 use Rattle.njs_interp.proofs.Kept.{Widens-trans, content-widened, FitsValue-widened}

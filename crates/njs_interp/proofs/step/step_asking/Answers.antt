@@ -1,11 +1,11 @@
-use Rattle.std.proofs.Common.{◌≡◌, ◌<◌, sym, subst, ◌∙◌}
+use Rattle.std.proofs.Common.{◌≡◌, ◌<◌, sym, subst}
 use Rattle.std.specs.Prelude.{OnOk, OnErr, Err}
 use Rattle.njs_convert.specs.declared.stop.Stop.TheVariants.{Fuel}
 use Rattle.njs_interp.specs.declared.families.Family.TheVariants as family
 use Rattle.njs_interp.specs.Stepping.{GoesTo, Steps}
 use Rattle.njs_interp.specs.Jumps.{LeavesNext}
 use Rattle.njs_interp.proofs.Lifting.{steps_asked, goes_next, leaves_next, ok_next, err_next}
-use Rattle.njs_interp.proofs.Sorted.{continues, charge_asks}
+use Rattle.njs_interp.proofs.Sorted.{continues}
 use Rattle.njs_interp.proofs.step.step_asking.Goals as goal
 
 pub returns-clause-told : goal.returns-clause-told

@@ -1,4 +1,3 @@
-use Rattle.std.proofs.Common.{refl}
 use Rattle.njs_interp.proofs.Standing.{extends-nothing}
 use Rattle.njs_interp.proofs.Stepped.{number-means, stays-means}
 use Rattle.njs_interp.proofs.operators.updates.stepped_from.Goals as goal

@@ -1,4 +1,4 @@
-use Rattle.std.proofs.Common.{◌≡◌, sym, ◌∙◌}
+use Rattle.std.proofs.Common.{sym, ◌∙◌}
 use Rattle.njs_interp.specs.declared.families.Family.TheVariants as family
 use Rattle.njs_interp.proofs.Kept.{Grown-refl}
 use Rattle.njs_interp.proofs.Lifting.{in_any_call}
