@@ -1,4 +1,4 @@
-use Rattle.std.proofs.Common.{◌≡◌, ℕ, suc, ◌+◌, ◌-◌, length, sym, ap, ◌∙◌, arith, rules}
+use Rattle.std.proofs.Common.{◌≡◌, ◌+◌, ◌-◌, length, sym, ap, ◌∙◌, arith, rules}
 use Rattle.njs_shared.specs.declared.object.Inner.{Inner}
 use Rattle.njs_shared.specs.declared.object.Inner.TheVariants as inner
 use Rattle.njs_clone.specs.StandsFor.{content_inner}

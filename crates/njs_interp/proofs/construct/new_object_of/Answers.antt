@@ -1,4 +1,4 @@
-use Rattle.std.proofs.Common.{◌≡◌, [], ◌∷◌, ◌++◌, Some, true, length, sym, ap, ◌∙◌, arith, length-append}
+use Rattle.std.proofs.Common.{[], ◌∷◌, Some, true, length, sym, ap, ◌∙◌, arith, length-append}
 use Rattle.njs_value.specs.declared.Class.TheVariants as class
 use Rattle.njs_shared.specs.declared.object.Inner.TheVariants as inner
 use Rattle.njs_shared.specs.Heap.{Heap, HeapObject}

@@ -1,4 +1,4 @@
-use Rattle.std.proofs.Common.{◌≡◌, ◌∙◌, ◌++◌, ◌∷◌, [], Some, None, slice_get, ap, sym, subst, arith}
+use Rattle.std.proofs.Common.{◌≡◌, ◌∙◌, ◌++◌, ◌∷◌, [], Some, None, slice_get, ap, sym, arith}
 use Rattle.njs_value.specs.declared.Value.TheVariants.{Undefined}
 use Rattle.njs_shared.specs.Heap.{Heap, sizes}
 use Rattle.njs_shared.specs.Fits.{FitsValue}
