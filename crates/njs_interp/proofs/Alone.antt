@@ -1,26 +1,20 @@
 -- Answers that change the heap alone, for a caller.
-use Rattle.std.proofs.Common.{◌≡◌, ℕ, ◌+◌, ◌≤◌, List, [], ◌∷◌, ◌++◌, map, Option, Some, None, Result, Ok, Err, false, slice_index_or, refl, sym, ap, ◌∙◌, subst, arith}
+use Rattle.std.proofs.Common.{◌≡◌, ℕ, List, [], map, Some, None, Result, Ok, Err, false, slice_index_or, refl, sym, ap, ◌∙◌, subst, arith}
 use Rattle.std.proofs.lemmas.List.{append-nil}
 use Rattle.njs_value.specs.declared.Cause.{Cause}
 use Rattle.njs_value.specs.declared.Cause.TheVariants as cause
-use Rattle.njs_value.specs.declared.TextId.{TextId}
 use Rattle.njs_value.specs.declared.ObjId.{ObjId}
 use Rattle.njs_value.specs.declared.Value.{Value}
 use Rattle.njs_value.specs.declared.Value.TheVariants as value
-use Rattle.njs_shared.specs.Heap.{Heap, HeapObject, Sizes, sizes}
-use Rattle.njs_shared.specs.declared.object.Inner.{Inner}
+use Rattle.njs_shared.specs.Heap.{Heap, HeapObject, Sizes}
 use Rattle.njs_clone.specs.Content.{content}
 use Rattle.njs_clone.specs.StandsFor.{plain_objects}
 use Rattle.njs_meaning.specs.Primitives.{Primitive, Undefined, Null, Truth, Number, Characters}
 use Rattle.njs_meaning.specs.Values.{PlainValue, Simple}
-use Rattle.njs_meaning.specs.Operators.{Answer}
 use Rattle.njs_meaning.specs.State.{State, Outcome, Gives, Throws, Spent, Asks}
 use Rattle.njs_meaning.specs.Replies.{state_of}
 use Rattle.njs_meaning.specs.Errors.{name_of, message_of, throw}
-use Rattle.njs_meaning.specs.Operations.{answered}
 use Rattle.njs_members.specs.Gains.{GainsTexts}
-use Rattle.njs_ops.specs.declared.values.OpValue.{OpValue}
-use Rattle.njs_ops.specs.Values.{given}
 use Rattle.njs_convert.specs.declared.stop.Stop.{Stop}
 use Rattle.njs_convert.specs.declared.stop.Stop.TheVariants.{Throw, Fuel, NoMemory}
 use Rattle.njs_convert.specs.Tells.{Tells, ShowsValue, Extends, ThrowsError, FitsCause, Counts, CountsError, text_at}

@@ -22,7 +22,7 @@ use Rattle.njs_convert.specs.declared.stop.Stop.TheVariants.{Throw, Fuel, NoMemo
 use Rattle.njs_convert.specs.Tells.{Tells, ShowsNumber, FitsAnswer, Counts}
 use Rattle.njs_simul.specs.Stacks as plain
 use Rattle.njs_simul.specs.Stacks.{with_operands, push, context}
-use Rattle.njs_simul.specs.Step.{Action, Goes, Ends, Leads, on, act, operands_of}
+use Rattle.njs_simul.specs.Step.{Action, Goes, on, act, operands_of}
 use Rattle.njs_interp.specs.declared.stacks.Stacks.{Stacks}
 use Rattle.njs_interp.specs.Plain.{plain_stacks}
 use Rattle.njs_interp.specs.Acts.{Below, Acts, state_in}

@@ -5,7 +5,7 @@ use Rattle.njs_shared.specs.Heap.{Heap}
 use Rattle.njs_code.specs.declared.op.Kind.{Kind}
 use Rattle.njs_code.specs.declared.op.Op.{Op}
 use Rattle.njs_meaning.specs.Running.{Calls}
-use Rattle.njs_meaning.specs.State.{State, Outcome, Gives, Throws, Spent, Asks}
+use Rattle.njs_meaning.specs.State.{State, Gives, Throws, Spent, Asks}
 use Rattle.njs_meaning.specs.Replies.{state_of}
 use Rattle.njs_convert.specs.declared.stop.Stop.{Stop}
 use Rattle.njs_convert.specs.declared.stop.Stop.TheVariants.{Throw, Fuel, NoMemory}

@@ -1,5 +1,5 @@
 -- Lists of names that are charged for.
-use Rattle.std.proofs.Common.{◌≡◌, ℕ, ◌-◌, ◌<◌, ◌≤◌, ◌+◌, List, [], ◌∷◌, ◌++◌, length, map, reverse, Bool, true, false, cond, Result, Ok, Err, refl, sym, ap, ◌∙◌, subst, arith, length-append}
+use Rattle.std.proofs.Common.{◌≡◌, ℕ, ◌-◌, ◌<◌, ◌≤◌, List, [], ◌∷◌, length, map, reverse, Bool, true, false, cond, Result, Ok, Err, refl, sym, ap, ◌∙◌, subst, arith, length-append}
 use Rattle.std.proofs.lemmas.Bool.{le-ltb, lt-ltb}
 use Rattle.std.proofs.lemmas.List.{reverse-append}
 use Rattle.std.specs.Prelude.{nat_lt}
@@ -14,13 +14,13 @@ use Rattle.njs_code.specs.declared.op.Op.{Op}
 use Rattle.njs_code.specs.declared.code.FunctionCode.{FunctionCode}
 use Rattle.njs_code.specs.Effects.{depth_left, depth_next, operands_taken, scopes_taken, lists_taken, endings_taken, operands_given, scopes_given, lists_given, endings_given}
 use Rattle.njs_meaning.specs.Values.{PlainValue}
-use Rattle.njs_meaning.specs.State.{State, Outcome, Gives, Spent}
+use Rattle.njs_meaning.specs.State.{State, Gives, Spent}
 use Rattle.njs_meaning.specs.Running.{charge}
 use Rattle.njs_meaning.specs.Members.{names_in}
 use Rattle.njs_convert.specs.declared.stop.Stop.{Stop}
 use Rattle.njs_convert.specs.declared.stop.Stop.TheVariants.{Throw, Fuel, NoMemory}
 use Rattle.njs_simul.specs.Stacks as plain
-use Rattle.njs_simul.specs.Step.{Action, Goes, Ends, on, act}
+use Rattle.njs_simul.specs.Step.{Action, Goes, on, act}
 use Rattle.njs_interp.specs.declared.stacks.Listing.{Listing}
 use Rattle.njs_interp.specs.declared.stacks.Stacks.{Stacks}
 use Rattle.njs_interp.specs.Plain.{plain_listing, plain_ending, plain_stacks}

@@ -1,6 +1,5 @@
 -- Two values that are converted, the left before the right, and what follows both.
 use Rattle.std.proofs.Common.{◌≡◌, ℕ, List, Result, Ok, Err, sym, subst}
-use Rattle.njs_value.specs.declared.Value.{Value}
 use Rattle.njs_meaning.specs.Values.{PlainValue}
 use Rattle.njs_meaning.specs.State.{State, Outcome, and_then}
 use Rattle.njs_meaning.specs.Replies.{state_of}

@@ -6,8 +6,6 @@ use Rattle.std.proofs.lemmas.Option.{slice_get_cases}
 use Rattle.njs_value.specs.declared.ScopeId.{ScopeId}
 use Rattle.njs_value.specs.declared.Value.{Value}
 use Rattle.njs_value.specs.declared.Value.TheVariants.{Undefined}
-use Rattle.njs_shared.specs.declared.object.Inner.{Inner}
-use Rattle.njs_shared.specs.declared.object.Inner.TheVariants as inner
 use Rattle.njs_shared.specs.declared.object.Scope.{Scope}
 use Rattle.njs_shared.specs.Heap.{Heap, sizes}
 use Rattle.njs_shared.specs.Fits.{FitsValue}
@@ -19,11 +17,10 @@ use Rattle.njs_meaning.specs.Scopes.{with_scope}
 use Rattle.njs_meaning.specs.State.{State}
 use Rattle.njs_meaning.specs.Values.{Simple}
 use Rattle.njs_convert.specs.FirstHeap.{StandsFor, slots_of, nameless}
-use Rattle.njs_convert.specs.Tells.{IsOrdinary}
 use Rattle.njs_simul.proofs.Kept.{pushed_last}
 use Rattle.njs_interp.specs.Plain.{heap_of}
 use Rattle.njs_interp.specs.Sits.{SlotsFrom}
-use Rattle.njs_interp.specs.Grown.{Grown, FitsFurther, FunctionsFit}
+use Rattle.njs_interp.specs.Grown.{Grown}
 use Rattle.njs_interp.specs.Calling.{filled, scope_filled}
 use Rattle.njs_interp.proofs.Entering.{push_set, Grown-scope}
 use Rattle.njs_interp.proofs.Kept.{FitsValue-widened, SlotsFrom-widened}
@@ -135,16 +132,3 @@ module _ (old mid : Heap) (parent : ScopeId) (n i : ℕ) (args : List Value) (is
 -- the number of the scope in a state
 pub counted-scopes : (h : Heap) (s : State) → StandsFor h (heap_of s) → length h.scopes ≡ length s.scopes
 counted-scopes h s stands = sym (length-map h.scopes (slots_of h.texts)) ∙ ap length stands.scopes ∙ length-map s.scopes nameless
-
--- ---- functions
-
-ordinary_fits : (counts : ℕ → ℕ → Option (List ℕ)) (scopes : List Scope) (i : Inner) → IsOrdinary i → FitsFurther counts scopes i
-ordinary_fits counts scopes inner.Plain is = tt
-ordinary_fits counts scopes (inner.Script unit number scope) is = absurd is
-ordinary_fits counts scopes (inner.BuiltIn row) is = absurd is
-ordinary_fits counts scopes (inner.Bound target this args) is = tt
-ordinary_fits counts scopes (inner.ZoneNumber zone) is = absurd is
-
--- no further function comes
-pub functions-none : (counts : ℕ → ℕ → Option (List ℕ)) (old new : Heap) → Grown old new → FunctionsFit counts old new
-functions-none counts old new grown = record { fresh = λ at object there far. ordinary_fits counts new.scopes object.inner (grown.fresh at object there far) }

@@ -7,11 +7,11 @@ use Rattle.njs_code.specs.declared.op.Kind.TheVariants as kind
 use Rattle.njs_code.specs.declared.op.Op.{Op}
 use Rattle.njs_code.specs.declared.code.FunctionCode.{FunctionCode}
 use Rattle.njs_code.specs.Effects.{depth_next}
-use Rattle.njs_meaning.specs.State.{State, Outcome, Gives, Spent}
+use Rattle.njs_meaning.specs.State.{State, Gives, Spent}
 use Rattle.njs_convert.specs.declared.stop.Stop.{Stop}
 use Rattle.njs_convert.specs.declared.stop.Stop.TheVariants.{Throw, Fuel, NoMemory}
 use Rattle.njs_simul.specs.Stacks.{Frame}
-use Rattle.njs_simul.specs.Step.{Action, Goes, on, act}
+use Rattle.njs_simul.specs.Step.{Goes, on, act}
 use Rattle.njs_interp.specs.declared.stacks.Stacks.{Stacks}
 use Rattle.njs_interp.specs.Plain.{plain_stacks}
 use Rattle.njs_interp.specs.Sits.{Sits}

@@ -1,25 +1,21 @@
 -- Objects that are made by `new`, and what may be called so.
-use Rattle.std.proofs.Common.{◌≡◌, ℕ, zero, suc, ◌+◌, ◌<◌, ◌≤◌, List, [], ◌∷◌, ◌++◌, length, map, Bool, true, false, Option, Some, None, Result, Ok, Err, slice_get, refl, sym, ap, ◌∙◌, subst, arith}
+use Rattle.std.proofs.Common.{◌≡◌, ℕ, suc, List, [], ◌∷◌, ◌++◌, Bool, true, false, Some, Ok, Err, slice_get, refl, sym, ap, ◌∙◌}
 use Rattle.std.specs.Option.{option_map, option_map_or}
-use Rattle.std.proofs.lemmas.List.{length-map}
 use Rattle.std.proofs.lemmas.Option.{slice_get-map}
 use Rattle.njs_value.specs.declared.ObjId.{ObjId}
 use Rattle.njs_value.specs.declared.Class.TheVariants as class
-use Rattle.njs_value.specs.declared.Row.{Row}
 use Rattle.njs_value.specs.declared.Value.{Value}
 use Rattle.njs_value.specs.declared.Value.TheVariants as value
-use Rattle.njs_shared.specs.declared.object.Inner.{Inner}
-use Rattle.njs_shared.specs.declared.object.Inner.TheVariants as inner
 use Rattle.njs_shared.specs.Heap.{Heap, HeapObject}
-use Rattle.njs_clone.specs.Content.{content, written}
-use Rattle.njs_clone.specs.StandsFor.{mapped_object, content_inner, content_objects, plain_objects}
+use Rattle.njs_clone.specs.Content.{content}
+use Rattle.njs_clone.specs.StandsFor.{mapped_object, content_inner, plain_objects}
 use Rattle.njs_meaning.specs.Chains.{get}
 use Rattle.njs_meaning.specs.Objects.{with_new_object}
-use Rattle.njs_meaning.specs.PlainHeap.{PlainObject, PlainInner, Plain}
+use Rattle.njs_meaning.specs.PlainHeap.{PlainObject, Plain}
 use Rattle.njs_meaning.specs.Primitives.{Undefined}
 use Rattle.njs_meaning.specs.Running.{with_object}
 use Rattle.njs_meaning.specs.State.{State, Outcome, Gives, and_then}
-use Rattle.njs_meaning.specs.Values.{PlainValue, Simple, ObjectAt, length_value}
+use Rattle.njs_meaning.specs.Values.{PlainValue, Simple, length_value}
 use Rattle.njs_meaning.specs.Functions.{Program, prototype_name, prototype_from, new_from, or_made, is_constructor, constructs_inner, inner_at}
 use Rattle.njs_convert.specs.declared.stop.Stop.{Stop}
 use Rattle.njs_convert.specs.Tells.{Tells, ShowsValue}

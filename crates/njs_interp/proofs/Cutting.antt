@@ -1,11 +1,9 @@
 -- What stands, cut to a depth.
-use Rattle.std.proofs.Common.{◌≡◌, ℕ, zero, suc, ◌+◌, ◌-◌, ◌<◌, ◌≤◌, List, [], ◌∷◌, ◌++◌, length, map, reverse, drop, take, refl, sym, ap, subst, ◌∙◌, arith, length-drop, length-append}
-use Rattle.std.specs.Prelude.{replicate}
+use Rattle.std.proofs.Common.{◌≡◌, ℕ, zero, suc, ◌+◌, ◌-◌, ◌<◌, ◌≤◌, List, [], ◌∷◌, ◌++◌, length, map, reverse, drop, sym, ap, subst, ◌∙◌, arith, length-drop, length-append}
 use Rattle.std.specs.List.{AllByRecursion}
 use Rattle.std.proofs.lemmas.List.{length-map, drop-map, length-reverse, reverse-append, reverse-reverse}
 use Rattle.std.proofs.Math.Seq.{drop-append-add}
 use Rattle.njs_value.specs.declared.ScopeId.{ScopeId}
-use Rattle.njs_value.specs.declared.Value.{Value}
 use Rattle.njs_shared.specs.declared.object.Scope.{Scope}
 use Rattle.njs_shared.specs.Heap.{Heap, sizes}
 use Rattle.njs_shared.specs.Fits.{FitsValue}
@@ -14,11 +12,10 @@ use Rattle.njs_code.specs.Facts.{IsWithin}
 use Rattle.njs_clone.specs.Content.{content}
 use Rattle.njs_simul.specs.Stacks as plain
 use Rattle.njs_simul.specs.Stacks.{lowest, cut_to}
-use Rattle.njs_interp.specs.declared.stacks.Ending.{Ending}
 use Rattle.njs_interp.specs.declared.stacks.Listing.{Listing}
 use Rattle.njs_interp.specs.declared.stacks.Stacks.{Stacks}
 use Rattle.njs_interp.specs.Plain.{number_of, plain_ending, plain_listing, plain_stacks}
-use Rattle.njs_interp.specs.Sits.{Sits, SlotsFrom, Entered, FitsEnding}
+use Rattle.njs_interp.specs.Sits.{Sits, Entered, FitsEnding}
 use Rattle.njs_interp.specs.Acts.{Below}
 use Rattle.njs_interp.specs.Leading.{IsCut}
 

@@ -1,45 +1,37 @@
 -- Scopes that are entered.
-use Rattle.std.proofs.Common.{◌≡◌, ℕ, zero, suc, ◌+◌, ◌-◌, ◌<◌, ◌≤◌, List, [], ◌∷◌, ◌++◌, length, map, replicate, Option, Some, None, Result, Ok, Err, slice_get, slice_set, ap, refl, sym, ◌∙◌, subst, arith, length-append}
+use Rattle.std.proofs.Common.{◌≡◌, ℕ, suc, ◌+◌, ◌-◌, ◌<◌, List, [], ◌∷◌, ◌++◌, length, map, replicate, Option, Some, Ok, Err, slice_get, slice_set, ap, refl, sym, ◌∙◌, subst, arith, length-append}
 use Rattle.std.specs.Option.{option_map_or}
-use Rattle.std.specs.List.{AllByRecursion}
 use Rattle.std.proofs.lemmas.List.{append-nil, length-map, map-append}
 use Rattle.std.proofs.lemmas.Option.{slice_get_within}
 use Rattle.njs_value.specs.declared.ScopeId.{ScopeId}
 use Rattle.njs_value.specs.declared.Value.{Value}
 use Rattle.njs_value.specs.declared.Value.TheVariants.{Undefined}
 use Rattle.njs_shared.specs.declared.object.Scope.{Scope}
-use Rattle.njs_shared.specs.Heap.{Heap, sizes}
-use Rattle.njs_shared.specs.Fits.{FitsValue}
+use Rattle.njs_shared.specs.Heap.{Heap}
 use Rattle.njs_clone.specs.Content.{content}
 use Rattle.njs_clone.specs.Scopes.{slot_count, with_slot, with_new_scope}
-use Rattle.njs_code.specs.declared.op.Depth.{Depth}
 use Rattle.njs_code.specs.declared.op.Kind.{Kind}
 use Rattle.njs_code.specs.declared.op.Kind.TheVariants as kind
 use Rattle.njs_code.specs.declared.op.Op.{Op}
 use Rattle.njs_code.specs.declared.code.FunctionCode.{FunctionCode}
 use Rattle.njs_code.specs.Effects.{depth_left, depth_next, operands_taken, scopes_taken, lists_taken, endings_taken, operands_given, scopes_given, lists_given, endings_given}
 use Rattle.njs_code.specs.Valid.{slots_outwards}
-use Rattle.njs_meaning.specs.Values.{PlainValue}
-use Rattle.njs_meaning.specs.PlainHeap.{PlainScope}
 use Rattle.njs_meaning.specs.Scopes.{bound, with_scope}
 use Rattle.njs_meaning.specs.State.{State}
-use Rattle.njs_convert.specs.declared.stop.Stop.{Stop}
-use Rattle.njs_convert.specs.declared.stop.Stop.TheVariants.{Throw, Fuel, NoMemory}
-use Rattle.njs_convert.specs.FirstHeap.{StandsFor, slots_of, nameless}
-use Rattle.njs_simul.specs.Stacks as plain
+use Rattle.njs_convert.specs.declared.stop.Stop.TheVariants.{NoMemory}
+use Rattle.njs_convert.specs.FirstHeap.{slots_of, nameless}
 use Rattle.njs_simul.specs.Stacks.{Frame, inner}
-use Rattle.njs_simul.specs.Step.{Action, Goes, act, on_top}
+use Rattle.njs_simul.specs.Step.{Action, Goes, act}
 use Rattle.njs_simul.proofs.Kept.{pushed_last}
 use Rattle.njs_interp.specs.declared.stacks.Stacks.{Stacks}
-use Rattle.njs_interp.specs.Plain.{heap_of, number_of, plain_stacks}
+use Rattle.njs_interp.specs.Plain.{number_of, plain_stacks}
 use Rattle.njs_interp.specs.Sits.{HasSlots, SlotsFrom, Entered, Sits}
 use Rattle.njs_interp.specs.Acts.{OnHeap, Unanswered, Acts, state_in}
 use Rattle.njs_interp.specs.Grown.{Grown}
 use Rattle.njs_interp.specs.Tells.{ActsOnHeap}
 use Rattle.njs_interp.specs.Operands.{Takes}
-use Rattle.njs_interp.specs.Slots.{HasPut}
-use Rattle.njs_interp.proofs.Kept.{front-at, Grown-refl, Grown-trans, Sits-widened, FitsValue-widened}
-use Rattle.njs_interp.proofs.Reached.{innermost-from, put-grown}
+use Rattle.njs_interp.proofs.Kept.{front-at, Sits-widened}
+use Rattle.njs_interp.proofs.Reached.{innermost-from}
 
 pub enter_takes : (name : List ℕ) (k : Kind) → k ≡ kind.Enter name → Takes k 1
 unfolding operands_taken scopes_taken lists_taken endings_taken

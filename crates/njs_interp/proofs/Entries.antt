@@ -1,5 +1,5 @@
 -- Where what a host runs leads.
-use Rattle.std.proofs.Common.{◌≡◌, ℕ, List, [], ◌∷◌, Bool, false, map, refl, sym, subst}
+use Rattle.std.proofs.Common.{ℕ, List, [], ◌∷◌, Bool, false, map, sym, subst}
 use Rattle.njs_value.specs.declared.Row.{Row}
 use Rattle.njs_shared.specs.Heap.{Heap}
 use Rattle.njs_clone.specs.Content.{content}
@@ -17,7 +17,7 @@ use Rattle.njs_interp.specs.declared.entry.Entry.TheVariants as entry
 use Rattle.njs_interp.specs.Hosts.{Answers}
 use Rattle.njs_interp.specs.Standing.{Holds}
 use Rattle.njs_interp.specs.Calling.{IsProgram}
-use Rattle.njs_interp.specs.Entries.{StandsIn, module_by, entry_by, FitsEntry}
+use Rattle.njs_interp.specs.Entries.{StandsIn, entry_by, FitsEntry}
 use Rattle.njs_interp.proofs.Bodies.{module_runs}
 
 module _ (means : Answers) (constructs : Row → Bool) (codes : List Code) (k : Known) (program : Program) (is : IsProgram means constructs codes k program)

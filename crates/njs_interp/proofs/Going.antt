@@ -1,6 +1,5 @@
 -- Where the operations that end a part of the code go on.
 use Rattle.std.proofs.Common.{◌≡◌, ℕ, ◌≤◌, List, Some, refl, arith}
-use Rattle.njs_text.specs.declared.text.Text.{Text}
 use Rattle.njs_code.specs.declared.op.Address.{Address}
 use Rattle.njs_code.specs.declared.op.Kind.{Kind}
 use Rattle.njs_code.specs.declared.op.Kind.TheVariants as kind

@@ -1,6 +1,6 @@
 -- What `instanceof` throws.
-use Rattle.std.proofs.Common.{◌≡◌, ℕ, List, [], ◌∷◌, ◌++◌, Bool, true, false, cond, Some, None, length, refl, sym, ap, ◌∙◌, arith, lit<}
-use Rattle.std.specs.Prelude.{codes, if◌then◌else◌}
+use Rattle.std.proofs.Common.{◌≡◌, ℕ, List, [], ◌∷◌, ◌++◌, Bool, true, false, cond, None, length, refl, sym, ap, ◌∙◌, arith}
+use Rattle.std.specs.Prelude.{codes}
 use Rattle.std.specs.Option.{option_map_or}
 use Rattle.njs_value.specs.declared.Cause.{Cause}
 use Rattle.njs_value.specs.declared.Cause.TheVariants as cause
@@ -16,7 +16,7 @@ use Rattle.njs_meaning.specs.State.{State, Outcome}
 use Rattle.njs_meaning.specs.Replies.{state_of}
 use Rattle.njs_meaning.specs.Errors.{place_of, prototype_of, name_of, message_of, named_message, error_with, throw}
 use Rattle.njs_meaning.specs.Conversions.{is_callable}
-use Rattle.njs_meaning.specs.Operations.{truth, target_of, is_behind, behind_prototype, is_instance, instance_of}
+use Rattle.njs_meaning.specs.Operations.{target_of, behind_prototype, is_instance, instance_of}
 
 -- a state with the objects of a heap
 abbrev pub some_state : Heap → State

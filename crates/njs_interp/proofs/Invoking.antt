@@ -1,5 +1,5 @@
 -- Calls of any value, and `new`: what they mean, by what is called.
-use Rattle.std.proofs.Common.{◌≡◌, ℕ, zero, suc, ◌-◌, ◌≤◌, List, [], ◌∷◌, ◌++◌, map, Bool, true, false, Option, Some, None, Result, Ok, Err, refl, sym, ap, ◌∙◌, subst, arith}
+use Rattle.std.proofs.Common.{◌≡◌, ℕ, zero, suc, ◌-◌, ◌≤◌, List, ◌++◌, map, Bool, true, false, Option, Some, None, Result, Ok, Err, refl, sym, ap, ◌∙◌, subst, arith}
 use Rattle.std.specs.Prelude.{nat_lt, if◌then◌else◌}
 use Rattle.std.specs.Option.{option_map_or}
 use Rattle.std.proofs.lemmas.List.{map-append}
@@ -13,15 +13,14 @@ use Rattle.njs_shared.specs.Heap.{Heap, Sizes}
 use Rattle.njs_shared.specs.Fits.{FitsValue}
 use Rattle.njs_clone.specs.Content.{content}
 use Rattle.njs_code.specs.declared.code.Code.{Code}
-use Rattle.njs_meaning.specs.Primitives.{Primitive, Undefined}
+use Rattle.njs_meaning.specs.Primitives.{Undefined}
 use Rattle.njs_meaning.specs.Values.{PlainValue, Simple, ObjectAt}
-use Rattle.njs_meaning.specs.PlainHeap.{PlainObject, PlainInner, Plain, Script, BuiltIn, Bound, ZoneNumber}
-use Rattle.njs_meaning.specs.Conversions.{is_callable}
+use Rattle.njs_meaning.specs.PlainHeap.{Plain, Script, BuiltIn, Bound, ZoneNumber}
 use Rattle.njs_meaning.specs.Errors.{name_of, throw}
 use Rattle.njs_meaning.specs.Replies.{Known, state_of}
 use Rattle.njs_meaning.specs.Running.{Calls, charge}
 use Rattle.njs_meaning.specs.State.{State, Outcome, Gives, Throws, Spent, Asks}
-use Rattle.njs_meaning.specs.Functions.{Program, inner_at, is_constructor, call_inner, construct_inner, with_further, calls_at}
+use Rattle.njs_meaning.specs.Functions.{Program, inner_at, call_inner, construct_inner, with_further, calls_at}
 use Rattle.njs_convert.specs.declared.stop.Stop.{Stop}
 use Rattle.njs_convert.specs.declared.stop.Stop.TheVariants.{Throw, Fuel, NoMemory}
 use Rattle.njs_convert.specs.Tells.{Tells, ShowsValue, Extends, ThrowsError, CountsError, Grows}
@@ -37,7 +36,7 @@ use Rattle.njs_interp.specs.Grown.{Widens}
 use Rattle.njs_interp.specs.Hosts.{Answers}
 use Rattle.njs_interp.specs.Owned.{stands_extends}
 use Rattle.njs_interp.specs.Standing.{Stands, FitsWay, by_way, CallsKeep}
-use Rattle.njs_interp.specs.Calling.{CodesOf, IsProgram, script_by, row_by, bound_way, can_construct, may_enter, refusal, entered_by, entered}
+use Rattle.njs_interp.specs.Calling.{IsProgram, script_by, row_by, bound_way, may_enter, refusal, entered_by, entered}
 use Rattle.njs_interp.proofs.Alone.{message_same}
 use Rattle.njs_interp.proofs.Kept.{Widens-objects, Widens-scopes}
 

@@ -1,28 +1,21 @@
 -- What stands where code jumps, and at the ends of its parts.
-use Rattle.std.proofs.Common.{◌≡◌, ℕ, zero, suc, ◌+◌, ◌-◌, ◌<◌, ◌≤◌, List, [], ◌∷◌, length, map, drop, Option, Some, None, Result, Ok, Err, ap, refl, sym, ◌∙◌, subst, arith}
+use Rattle.std.proofs.Common.{◌≡◌, ◌<◌, ◌≤◌, List, [], ◌∷◌, length, map, Ok, ap, refl, sym, subst, arith}
 use Rattle.std.specs.List.{AllByRecursion}
 use Rattle.njs_value.specs.declared.ScopeId.{ScopeId}
-use Rattle.njs_value.specs.declared.Value.{Value}
 use Rattle.njs_shared.specs.Heap.{Heap, sizes}
-use Rattle.njs_shared.specs.Fits.{FitsValue}
-use Rattle.njs_clone.specs.Content.{content}
 use Rattle.njs_code.specs.declared.op.Kind.{Kind}
 use Rattle.njs_code.specs.declared.op.Kind.TheVariants as kind
 use Rattle.njs_code.specs.declared.op.Op.{Op}
 use Rattle.njs_code.specs.declared.code.FunctionCode.{FunctionCode}
 use Rattle.njs_code.specs.Effects.{depth_left, depth_next, depth_at_jump, operands_taken, scopes_taken, lists_taken, endings_taken, operands_given, scopes_given, lists_given, endings_given, scopes_needed}
 use Rattle.njs_meaning.specs.State.{State}
-use Rattle.njs_meaning.specs.Completions.{Normal, Returned, Broken, Continued}
-use Rattle.njs_convert.specs.declared.stop.Stop.{Stop}
-use Rattle.njs_interp.specs.declared.next.Next.{Next}
 use Rattle.njs_interp.specs.declared.next.Next.TheVariants as next
 use Rattle.njs_interp.specs.declared.stacks.Ending.{Ending}
 use Rattle.njs_interp.specs.declared.stacks.Ending.TheVariants as ending
 use Rattle.njs_interp.specs.declared.stacks.Stacks.{Stacks}
-use Rattle.njs_simul.specs.Stacks as plain
-use Rattle.njs_simul.specs.Stacks.{Frame, Ended}
-use Rattle.njs_simul.specs.Step.{Goes, Leads, act, from, on_ending, resumed}
-use Rattle.njs_interp.specs.Plain.{heap_of, plain_ending, plain_stacks}
+use Rattle.njs_simul.specs.Stacks.{Frame}
+use Rattle.njs_simul.specs.Step.{from, on_ending, resumed}
+use Rattle.njs_interp.specs.Plain.{plain_ending, plain_stacks}
 use Rattle.njs_interp.specs.Sits.{Sits, Ready, Entered, FitsEnding}
 use Rattle.njs_interp.specs.Acts.{OnHeap, Unanswered, Below}
 use Rattle.njs_interp.specs.Operands.{Takes, Gives}

@@ -1,7 +1,7 @@
 -- What stands, and the states that a heap stands for, where the heap grows and where operands come and go.
-use Rattle.std.proofs.Common.{◌≡◌, ℕ, zero, suc, ◌+◌, ◌-◌, ◌<◌, ◌≤◌, List, [], ◌∷◌, ◌++◌, length, map, reverse, replicate, drop, Option, Some, None, Bool, true, false, nat_lt, slice_get, slice_index_or, ap, refl, sym, ◌∙◌, subst, arith, append_assoc, length-append}
+use Rattle.std.proofs.Common.{◌≡◌, ℕ, zero, suc, ◌+◌, ◌-◌, ◌<◌, ◌≤◌, List, [], ◌∷◌, ◌++◌, length, map, reverse, replicate, drop, Some, Bool, true, false, nat_lt, slice_get, slice_index_or, ap, refl, sym, ◌∙◌, subst, arith, append_assoc, length-append}
 use Rattle.std.specs.List.{AllByRecursion}
-use Rattle.std.specs.Option.{option_map, ForSome}
+use Rattle.std.specs.Option.{option_map}
 use Rattle.std.proofs.lemmas.List.{reverse-append, length-map, append-nil}
 use Rattle.std.proofs.lemmas.Option.{slice_get-map, slice_get_within}
 use Rattle.std.proofs.lemmas.Bool.Decides.{nat_tests}
@@ -15,29 +15,28 @@ use Rattle.njs_shared.specs.declared.object.Scope.{Scope}
 use Rattle.njs_shared.specs.Heap.{Heap, HeapObject, Sizes, sizes}
 use Rattle.njs_shared.specs.Fits.{FitsValue, FitsInner, FitsProperties, FitsObject, FitsScope, FitsHeap}
 use Rattle.njs_clone.specs.Content.{content}
-use Rattle.njs_clone.specs.StandsFor.{mapped, mapped_all, mapped_object, content_inner, content_objects, plain_objects}
+use Rattle.njs_clone.specs.StandsFor.{mapped, mapped_all, mapped_object, content_inner, content_objects}
 use Rattle.njs_code.specs.declared.op.Depth.{Depth}
 use Rattle.njs_code.specs.declared.op.Op.{Op}
 use Rattle.njs_code.specs.declared.code.FunctionCode.{FunctionCode}
 use Rattle.njs_code.specs.Effects.{depth_left, depth_next}
 use Rattle.njs_meaning.specs.Primitives.{Characters}
-use Rattle.njs_meaning.specs.Values.{PlainValue, Simple}
-use Rattle.njs_meaning.specs.PlainHeap.{PlainInner, PlainHeap, Bound}
+use Rattle.njs_meaning.specs.Values.{Simple}
+use Rattle.njs_meaning.specs.PlainHeap.{PlainHeap, Bound}
 use Rattle.njs_meaning.specs.Completions.{Returned}
 use Rattle.njs_meaning.specs.State.{State}
 use Rattle.njs_convert.specs.FirstHeap.{StandsFor, slots_of}
 use Rattle.njs_convert.specs.Tells.{Extends, IsOrdinary}
 use Rattle.njs_members.specs.Gains.{GainsTexts, KeepsRest}
-use Rattle.njs_simul.specs.Stacks as plain
 use Rattle.njs_simul.specs.Stacks.{Ended, Thrown}
 use Rattle.njs_interp.specs.declared.stacks.Ending.{Ending}
 use Rattle.njs_interp.specs.declared.stacks.Ending.TheVariants as ending
 use Rattle.njs_interp.specs.declared.stacks.Listing.{Listing}
 use Rattle.njs_interp.specs.declared.stacks.Stacks.{Stacks}
-use Rattle.njs_interp.specs.Plain.{heap_of, number_of, plain_ending, plain_listing, plain_stacks}
+use Rattle.njs_interp.specs.Plain.{heap_of, plain_ending, plain_listing, plain_stacks}
 use Rattle.njs_interp.specs.Sits.{HasSlots, SlotsFrom, Entered, FitsEnding, Sits, Ready}
 use Rattle.njs_interp.specs.Acts.{SameBeside, OnHeap, Unanswered}
-use Rattle.njs_interp.specs.Grown.{SameShape, SameInner, Widens, Grown}
+use Rattle.njs_interp.specs.Grown.{SameInner, Widens, Grown}
 use Rattle.njs_interp.specs.Operands.{Takes, Gives}
 
 -- ---- lists

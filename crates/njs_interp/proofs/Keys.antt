@@ -7,7 +7,6 @@ use Rattle.njs_value.specs.declared.Value.{Value}
 use Rattle.njs_clone.specs.Content.{content}
 use Rattle.njs_meaning.specs.Values.{PlainValue}
 use Rattle.njs_meaning.specs.State.{State, Outcome, Gives, Throws, Spent, Asks, and_then}
-use Rattle.njs_meaning.specs.Replies.{state_of}
 use Rattle.njs_meaning.specs.Running.{Context}
 use Rattle.njs_meaning.specs.Errors.{throw}
 use Rattle.njs_meaning.specs.Conversions.{to_text}
@@ -16,7 +15,7 @@ use Rattle.njs_meaning.specs.References.{Reference, Member}
 use Rattle.njs_meaning.specs.Meaning.{member_by}
 use Rattle.njs_convert.specs.declared.stop.Stop.{Stop}
 use Rattle.njs_convert.specs.declared.stop.Stop.TheVariants.{Throw, Fuel, NoMemory}
-use Rattle.njs_convert.specs.Tells.{Tells, ShowsText, text_at}
+use Rattle.njs_convert.specs.Tells.{Tells, ShowsText}
 use Rattle.njs_interp.specs.Asked.{ShowsMember}
 
 abbrev named : PlainValue → List ℕ → State → Outcome Reference

@@ -1,10 +1,8 @@
 -- Endings that lead out of a part of the code.
-use Rattle.std.proofs.Common.{◌≡◌, ℕ, zero, suc, ◌+◌, ◌-◌, ◌<◌, ◌≤◌, true, List, [], ◌∷◌, length, drop, Option, Some, None, refl, sym, ap, subst, ◌∙◌, arith, slice_get}
+use Rattle.std.proofs.Common.{◌≡◌, ℕ, ◌+◌, ◌-◌, ◌<◌, ◌≤◌, List, ◌∷◌, length, drop, Option, Some, None, refl, sym, ap, subst, ◌∙◌, arith, slice_get}
 use Rattle.std.specs.Option.{option_map}
-use Rattle.std.specs.List.{AllByRecursion}
 use Rattle.std.proofs.lemmas.Option.{slice_get_within}
 use Rattle.njs_shared.specs.Heap.{Heap, sizes}
-use Rattle.njs_shared.specs.Fits.{FitsValue}
 use Rattle.std.proofs.lemmas.List.{length-map}
 use Rattle.njs_clone.specs.Content.{content}
 use Rattle.njs_clone.proofs.Elements.{drop_at}

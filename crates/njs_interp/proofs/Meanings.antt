@@ -1,21 +1,20 @@
 -- What the groups of operators mean, and what they keep of a state where calls do.
-use Rattle.std.proofs.Common.{◌≡◌, ℕ, ℤ, ◌+◌, List, [], ◌∷◌, ◌++◌, length, Bool, true, false, cond, not, Option, Some, None, Result, Ok, Err, refl, sym, ap, ◌∙◌, subst, pos, ◌+ℤ◌, ◌-ℤ◌, ◌*ℤ◌}
-use Rattle.std.specs.Prelude.{◌||◌, nat_le, nat_lt, int_rem, if◌then◌else◌, bit_and, bit_or, bit_xor, int_div}
+use Rattle.std.proofs.Common.{◌≡◌, ℕ, ℤ, List, ◌++◌, length, Bool, true, false, cond, not, Some, None, Result, Ok, Err, refl, sym, ap, ◌∙◌, subst, pos, ◌+ℤ◌, ◌-ℤ◌, ◌*ℤ◌}
+use Rattle.std.specs.Prelude.{◌||◌, nat_le, int_rem, if◌then◌else◌, int_div}
 use Rattle.std.specs.Ordering.{int_eq}
 use Rattle.std.specs.Option.{option_map_or}
 use Rattle.njs_tree.specs.declared.tree.BinaryOp.{BinaryOp}
 use Rattle.njs_tree.specs.declared.tree.BinaryOp.TheVariants as op
 use Rattle.njs_tree.specs.declared.tree.UnaryOp.{UnaryOp}
 use Rattle.njs_tree.specs.declared.tree.UnaryOp.TheVariants as sign
-use Rattle.njs_value.specs.declared.Cause.{Cause}
-use Rattle.njs_value.specs.declared.Cause.TheVariants.{NotFunction, NotObject, NotNumber, OutOfRange, Fraction, DivideByZero, TextTooLong}
+use Rattle.njs_value.specs.declared.Cause.TheVariants.{NotNumber, OutOfRange, Fraction, DivideByZero, TextTooLong}
 use Rattle.njs_meaning.specs.declared.level.Hint.TheVariants as hint
 use Rattle.njs_meaning.specs.Primitives.{Primitive, Undefined, Null, Truth, Number, Characters}
-use Rattle.njs_meaning.specs.Values.{PlainValue, Simple, ObjectAt, is_same}
+use Rattle.njs_meaning.specs.Values.{PlainValue, Simple, is_same}
 use Rattle.njs_meaning.specs.Numbers.{is_safe, number_of, text_of}
 use Rattle.njs_meaning.specs.Operators.{Answer, binary_of, unary_of, safe, numbers_of, is_text, joined, sum, on_number as number_answer, on_numbers as numbers_answer, quotient, remainder}
-use Rattle.njs_meaning.specs.State.{State, Outcome, Gives, Throws, Spent, Asks, Call, and_then}
-use Rattle.njs_meaning.specs.Errors.{name_of, throw}
+use Rattle.njs_meaning.specs.State.{State, Call, and_then}
+use Rattle.njs_meaning.specs.Errors.{name_of}
 use Rattle.njs_meaning.specs.Operations.{answered, paid, on_primitives, added, on_numbers, equals, truth, instance_of, is_in, binary}
 use Rattle.njs_interp.specs.declared.operators.groups.Group.TheVariants as group
 use Rattle.njs_ops.specs.declared.values.OpValue.{OpValue}

@@ -1,5 +1,5 @@
 -- How many operands each operation takes and gives.
-use Rattle.std.proofs.Common.{◌≡◌, ℕ, ◌+◌, ◌-◌, List, [], ◌∷◌, ◌++◌, length, Option, Bool, ℤ, refl, sym, ap, ◌∙◌, subst, arith}
+use Rattle.std.proofs.Common.{◌≡◌, ℕ, List, Option, Bool, ℤ, refl, sym, subst}
 use Rattle.njs_tree.specs.declared.tree.LogicalOp.{LogicalOp}
 use Rattle.njs_tree.specs.declared.tree.UpdateOp.{UpdateOp}
 use Rattle.njs_code.specs.declared.op.Address.{Address}

@@ -1,23 +1,21 @@
 -- What a joined text costs.
-use Rattle.std.proofs.Common.{◌≡◌, ℕ, ◌+◌, ◌-◌, ◌/◌, ◌<◌, ◌≤◌, List, ◌++◌, length, Bool, true, false, cond, Result, Ok, Err, refl, sym, ap, ◌∙◌, subst, arith}
+use Rattle.std.proofs.Common.{◌≡◌, ℕ, ◌-◌, ◌<◌, ◌≤◌, List, ◌++◌, length, Bool, true, false, cond, Result, Ok, Err, refl, sym, ap, ◌∙◌, subst, arith}
 use Rattle.std.proofs.lemmas.Bool.{le-leb, le-ltb, lt-ltb}
-use Rattle.std.specs.Prelude.{OnOk, OnErr, nat_lt, nat_le, ◌||◌, if◌then◌else◌}
+use Rattle.std.specs.Prelude.{OnOk, OnErr, nat_lt, ◌||◌}
 use Rattle.njs_tree.specs.declared.tree.BinaryOp.TheVariants as op
-use Rattle.njs_value.specs.declared.Cause.TheVariants.{TextTooLong}
 use Rattle.njs_shared.specs.Heap.{Sizes}
 use Rattle.njs_meaning.specs.Primitives.{Primitive, Characters}
 use Rattle.njs_meaning.specs.Values.{PlainValue, Simple}
 use Rattle.njs_meaning.specs.Numbers.{text_of}
 use Rattle.njs_meaning.specs.Operators.{Answer, binary_of, is_text}
 use Rattle.njs_meaning.specs.State.{State, Gives, Spent}
-use Rattle.njs_meaning.specs.Replies.{state_of}
 use Rattle.njs_meaning.specs.Running.{one_and}
 use Rattle.njs_meaning.specs.Operations.{answered, paid}
 use Rattle.njs_convert.specs.declared.stop.Stop.{Stop}
 use Rattle.njs_convert.specs.declared.stop.Stop.TheVariants.{Throw, Fuel, NoMemory}
 use Rattle.njs_convert.specs.Tells.{Tells, FitsAnswer}
 use Rattle.njs_interp.specs.Alone.{Pays, ThrowsNothing}
-use Rattle.njs_interp.proofs.Meanings.{sum_numbers, sum_texts}
+use Rattle.njs_interp.proofs.Meanings.{sum_texts}
 use Rattle.njs_interp.proofs.Stopping.{paid_keeps}
 
 -- what wasn't paid ends the operator

@@ -1,5 +1,5 @@
 -- Slots that are read and written, on the machine and by content.
-use Rattle.std.proofs.Common.{◌≡◌, ℕ, zero, suc, ◌+◌, ◌-◌, ◌<◌, ◌≤◌, ◌⊎◌, inl, inr, List, [], ◌∷◌, ◌++◌, length, map, replicate, Option, Some, None, Result, Ok, Err, slice_get, slice_set, ap, refl, sym, ◌∙◌, subst, arith}
+use Rattle.std.proofs.Common.{◌≡◌, ℕ, zero, suc, ◌+◌, ◌-◌, ◌<◌, ◌⊎◌, inl, inr, List, [], ◌∷◌, ◌++◌, length, map, replicate, Option, Some, None, Result, Ok, Err, slice_get, slice_set, ap, refl, sym, ◌∙◌, subst, arith}
 use Rattle.std.specs.Option.{option_map, option_map_or, option_and_then}
 use Rattle.std.proofs.lemmas.List.{map-set, append-nil}
 use Rattle.std.proofs.lemmas.Option.{slice_get-map, slice_get_within}
@@ -31,8 +31,8 @@ use Rattle.njs_simul.proofs.Kept.{set_kept}
 use Rattle.njs_interp.specs.declared.stacks.Stacks.{Stacks}
 use Rattle.njs_interp.specs.Plain.{heap_of, number_of, plain_stacks}
 use Rattle.njs_interp.specs.Sits.{HasSlots, SlotsFrom, Entered, Sits, Ready}
-use Rattle.njs_interp.specs.Acts.{OnHeap, SameBeside, Unanswered, Acts, state_in}
-use Rattle.njs_interp.specs.Grown.{SameShape, Widens, Grown}
+use Rattle.njs_interp.specs.Acts.{OnHeap, Unanswered, Acts, state_in}
+use Rattle.njs_interp.specs.Grown.{SameShape, Grown}
 use Rattle.njs_interp.specs.Tells.{ActsOnHeap, Leaves}
 use Rattle.njs_interp.specs.Operands.{Pushed, Takes, Gives}
 use Rattle.njs_interp.specs.Slots.{outwards, HasPut}

@@ -1,5 +1,5 @@
 -- The functions of scripts, and runs of their code in the scopes of calls.
-use Rattle.std.proofs.Common.{◌≡◌, ℕ, suc, ◌-◌, ◌<◌, ◌≤◌, List, [], ◌∷◌, length, map, Bool, true, false, Option, Some, None, Result, Ok, Err, slice_get, refl, sym, ap, ◌∙◌, subst, arith, inl, inr}
+use Rattle.std.proofs.Common.{◌≡◌, ℕ, ◌-◌, ◌<◌, ◌≤◌, List, [], ◌∷◌, length, map, Bool, true, false, Option, Some, None, Result, Err, slice_get, refl, sym, ap, ◌∙◌, subst, arith, inl, inr}
 use Rattle.std.specs.Prelude.{nat_lt, if◌then◌else◌}
 use Rattle.std.specs.Option.{option_map, option_map_or, option_and_then}
 use Rattle.std.proofs.lemmas.Bool.{le-ltb, lt-ltb}
@@ -10,30 +10,24 @@ use Rattle.njs_tree.specs.Early.{repeats}
 use Rattle.njs_value.specs.declared.Cause.TheVariants.{NotFunction}
 use Rattle.njs_value.specs.declared.ScopeId.{ScopeId}
 use Rattle.njs_value.specs.declared.Value.{Value}
-use Rattle.njs_shared.specs.Heap.{Heap}
-use Rattle.njs_shared.specs.Fits.{FitsHeap}
-use Rattle.njs_clone.specs.Content.{content}
 use Rattle.njs_code.specs.declared.code.Code.{Code}
 use Rattle.njs_code.specs.declared.code.FunctionCode.{FunctionCode}
-use Rattle.njs_code.specs.declared.op.Op.{Op}
 use Rattle.njs_code.specs.Facts.{HasParams}
 use Rattle.njs_meaning.specs.Primitives.{Undefined}
 use Rattle.njs_meaning.specs.Values.{PlainValue, Simple}
 use Rattle.njs_meaning.specs.PlainHeap.{Variable}
-use Rattle.njs_meaning.specs.State.{State, Outcome, Gives, Throws, Spent, Asks}
+use Rattle.njs_meaning.specs.State.{State, Outcome, Spent}
 use Rattle.njs_meaning.specs.Errors.{throw}
 use Rattle.njs_meaning.specs.Replies.{Known, state_of}
-use Rattle.njs_meaning.specs.Running.{Calls, Context, charge, one_and}
-use Rattle.njs_meaning.specs.Places.{Around, assignable}
+use Rattle.njs_meaning.specs.Running.{Calls, charge, one_and}
+use Rattle.njs_meaning.specs.Places.{assignable}
 use Rattle.njs_meaning.specs.Scopes.{with_scope, next_scope}
 use Rattle.njs_meaning.specs.Functions.{Function, Program, functions_of, names_of_scope, first_variables, run_body, run_function, call_script, parameter_value}
 use Rattle.njs_meaning.specs.Meaning as means
 use Rattle.njs_convert.specs.declared.stop.Stop.{Stop}
-use Rattle.njs_convert.specs.declared.stop.Stop.TheVariants.{Throw, Fuel, NoMemory}
-use Rattle.njs_convert.specs.FirstHeap.{StandsFor}
-use Rattle.njs_convert.specs.Tells.{Tells, Means, ShowsValue}
-use Rattle.njs_simul.specs.Stacks.{Frame, context}
-use Rattle.njs_simul.specs.EmissionOfStatements.{slots_of}
+use Rattle.njs_convert.specs.declared.stop.Stop.TheVariants.{Fuel}
+use Rattle.njs_convert.specs.Tells.{Tells, ShowsValue}
+use Rattle.njs_simul.specs.Stacks.{Frame}
 use Rattle.njs_simul.specs.Compiled.{code_of}
 use Rattle.njs_simul.specs.Fits.{Names, Scoped, Good, CallsFare}
 use Rattle.njs_simul.specs.Program.{starting, FunctionMeans, ScriptMeans, names_in}
@@ -41,13 +35,9 @@ use Rattle.njs_simul.specs.Runs.{Runs}
 use Rattle.njs_simul.proofs.FineFunctions.{bindings_of_bound}
 use Rattle.njs_simul.proofs.Kept.{fares_scope, scoped_inner}
 use Rattle.njs_simul.proofs.Program.{program_means}
-use Rattle.njs_interp.specs.Plain.{heap_of}
-use Rattle.njs_interp.specs.Acts.{SameBeside}
 use Rattle.njs_interp.specs.Hosts.{behind_own, counts_of}
 use Rattle.njs_interp.specs.Stepping.{CountsAre}
-use Rattle.njs_interp.specs.Sits.{SlotsFrom}
 use Rattle.njs_interp.specs.Standing.{CallsKeep}
-use Rattle.njs_interp.specs.Tells.{IsFrame}
 use Rattle.njs_interp.specs.Calling.{CodesOf, own_slots, filled}
 use Rattle.njs_interp.proofs.Kept.{map-at}
 use Rattle.njs_interp.proofs.Parameters.{first_filled}

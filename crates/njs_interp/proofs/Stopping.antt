@@ -1,21 +1,15 @@
 -- Operators keep what holds of a state by its dictionaries and the calls on them that were answered, where calls of values do.
-use Rattle.std.proofs.Common.{◌≡◌, ℕ, ◌-◌, List, length, ℤ, Bool, true, false, cond, not, Result, Ok, Err, refl}
-use Rattle.std.specs.Prelude.{nat_lt, if◌then◌else◌}
-use Rattle.njs_tree.specs.declared.tree.BinaryOp.{BinaryOp}
-use Rattle.njs_tree.specs.declared.tree.BinaryOp.TheVariants as op
-use Rattle.njs_tree.specs.declared.tree.UnaryOp.{UnaryOp}
-use Rattle.njs_value.specs.declared.Cause.{Cause}
-use Rattle.njs_meaning.specs.declared.level.Hint.{Hint}
+use Rattle.std.proofs.Common.{◌≡◌, ℕ, ◌-◌, List, length, Bool, true, false, cond, Ok, Err, refl}
+use Rattle.std.specs.Prelude.{nat_lt}
 use Rattle.njs_meaning.specs.declared.level.Hint.TheVariants as hint
 use Rattle.njs_meaning.specs.Primitives.{Primitive, Undefined, Null, Truth, Number, Characters}
 use Rattle.njs_meaning.specs.Values.{PlainValue, Simple, ObjectAt}
-use Rattle.njs_meaning.specs.Operators.{Answer, binary_of, unary_of, is_nothing, is_equal}
-use Rattle.njs_meaning.specs.State.{State, Outcome, Gives, Spent, Call, and_then}
+use Rattle.njs_meaning.specs.Operators.{Answer, is_nothing, is_equal}
+use Rattle.njs_meaning.specs.State.{State, Gives, Spent, Call, and_then}
 use Rattle.njs_meaning.specs.Replies.{state_of}
-use Rattle.njs_meaning.specs.Running.{one_and, charge}
-use Rattle.njs_meaning.specs.Conversions.{to_primitive, to_number, to_text}
-use Rattle.njs_meaning.specs.Members.{has_member}
-use Rattle.njs_meaning.specs.Operations.{answered, paid, truth, equal_to_object, equals}
+use Rattle.njs_meaning.specs.Running.{one_and}
+use Rattle.njs_meaning.specs.Conversions.{to_primitive}
+use Rattle.njs_meaning.specs.Operations.{answered, paid, equal_to_object, equals}
 use Rattle.njs_convert.proofs.Stopped.{then_keeps, throw_keeps, to_primitive_keeps}
 
 module _ (stopped : State → Type 0) (same : (s t : State) → t.zones ≡ s.zones → t.asked ≡ s.asked → stopped s → stopped t) where

@@ -1,5 +1,5 @@
 -- Texts that are added.
-use Rattle.std.proofs.Common.{◌≡◌, ℕ, zero, suc, List, [], ◌∷◌, ◌++◌, Result, Ok, Err, length, slice_index_or, ap, refl, sym, ◌∙◌, subst}
+use Rattle.std.proofs.Common.{◌≡◌, ℕ, List, [], ◌∷◌, ◌++◌, Result, Ok, Err, length, slice_index_or, ap, refl, sym, ◌∙◌, subst}
 use Rattle.njs_value.specs.declared.Value.{Value}
 use Rattle.njs_value.specs.declared.Value.TheVariants as value
 use Rattle.njs_shared.specs.Heap.{Heap}

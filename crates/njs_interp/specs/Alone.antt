@@ -1,10 +1,7 @@
 -- What operators tell that change the heap alone, and how an operator goes about its values.
-use Rattle.std.specs.Prelude.{◌≡◌, ℕ, ℤ, List, Bool, Option, Some, None, Result, Ok, Err}
+use Rattle.std.specs.Prelude.{◌≡◌, ℕ, List, Bool, Option, Some, None, Result, Ok, Err}
 use Rattle.njs_tree.specs.declared.tree.BinaryOp.{BinaryOp}
 use Rattle.njs_tree.specs.declared.tree.BinaryOp.TheVariants as op
-use Rattle.njs_tree.specs.declared.tree.UnaryOp.{UnaryOp}
-use Rattle.njs_tree.specs.declared.tree.UnaryOp.TheVariants as sign
-use Rattle.njs_value.specs.declared.Cause.{Cause}
 use Rattle.njs_value.specs.declared.ObjId.{ObjId}
 use Rattle.njs_value.specs.declared.Value.{Value}
 use Rattle.njs_value.specs.declared.Value.TheVariants as value

@@ -1,6 +1,5 @@
 -- Calls of values, and of functions of scripts: the program that codes are of, and the scopes that calls begin with.
 use Rattle.std.specs.Prelude.{◌≡◌, ◌≤◌, ℕ, zero, suc, List, [], ◌∷◌, length, map, Bool, true, false, Option, Some, None, slice_get, Result}
-use Rattle.std.specs.Option.{option_map_or}
 use Rattle.njs_tree.specs.declared.tree.Script.{Script}
 use Rattle.njs_tree.specs.Early.{repeats}
 use Rattle.njs_value.specs.declared.Cause.{Cause}

@@ -1,5 +1,5 @@
 -- What a host promises of the built-in functions that it answers, and the machines that fit a program.
-use Rattle.std.specs.Prelude.{◌≡◌, ℕ, ◌<◌, ◌≤◌, List, [], ◌∷◌, length, map, Option, Some, None, slice_get, Bool}
+use Rattle.std.specs.Prelude.{◌≡◌, ℕ, ◌<◌, ◌≤◌, List, [], ◌∷◌, length, Option, Some, None, slice_get, Bool}
 use Rattle.std.specs.Option.{option_and_then}
 use Rattle.njs_value.specs.declared.Row.{Row}
 use Rattle.njs_shared.specs.declared.object.Inner.{Inner}
@@ -7,7 +7,6 @@ use Rattle.njs_shared.specs.declared.object.Inner.TheVariants as inner
 use Rattle.njs_shared.specs.declared.object.Scope.{Scope}
 use Rattle.njs_shared.specs.Heap.{Heap, HeapObject}
 use Rattle.njs_code.specs.declared.code.Code.{Code}
-use Rattle.njs_code.specs.declared.code.FunctionCode.{FunctionCode}
 use Rattle.njs_meaning.specs.Values.{PlainValue}
 use Rattle.njs_meaning.specs.State.{State, Outcome}
 use Rattle.njs_meaning.specs.Errors.{first_count}

@@ -1,5 +1,5 @@
 -- Operands that operations take and give.
-use Rattle.std.specs.Prelude.{◌≡◌, ℕ, ◌+◌, List, [], ◌∷◌, ◌++◌, length, Result, Ok, Err}
+use Rattle.std.specs.Prelude.{◌≡◌, ℕ, List, [], ◌∷◌, ◌++◌, length, Result, Ok, Err}
 use Rattle.std.specs.List.{AllByRecursion}
 use Rattle.njs_value.specs.declared.Value.{Value}
 use Rattle.njs_value.specs.declared.Value.TheVariants as value

@@ -1,9 +1,8 @@
 -- The states that a machine stands for, when its heap grows.
-use Rattle.std.proofs.Common.{◌≡◌, ℕ, zero, suc, ◌<◌, ◌≤◌, List, [], ◌∷◌, ◌++◌, length, map, Option, Some, None, slice_get, slice_index_or, sym, ap, refl, ◌∙◌, subst, arith, length-append, inl, inr}
+use Rattle.std.proofs.Common.{◌≡◌, ℕ, zero, suc, ◌<◌, ◌≤◌, List, [], ◌∷◌, ◌++◌, length, map, Option, Some, slice_get, slice_index_or, sym, ap, refl, ◌∙◌, subst, arith, length-append, inl, inr}
 use Rattle.std.proofs.lemmas.Bool.{cases_lt}
 use Rattle.std.proofs.lemmas.List.{length-map}
 use Rattle.std.specs.List.{AllByRecursion}
-use Rattle.std.specs.Option.{option_map}
 use Rattle.njs_value.specs.declared.Value.{Value}
 use Rattle.njs_value.specs.declared.Value.TheVariants as value
 use Rattle.njs_shared.specs.declared.object.Scope.{Scope}
@@ -21,7 +20,7 @@ use Rattle.njs_convert.specs.Tells.{Extends, IsOrdinary, SameButHost}
 use Rattle.njs_interp.specs.Plain.{heap_of}
 use Rattle.njs_interp.specs.Acts.{SameBeside}
 use Rattle.njs_simul.specs.Fits.{Names, FitsInner, Good}
-use Rattle.njs_interp.specs.Sits.{HasSlots, SlotsFrom}
+use Rattle.njs_interp.specs.Sits.{SlotsFrom}
 use Rattle.njs_interp.specs.Grown.{SameShape, Widens, FitsFurther, FunctionsFit}
 use Rattle.njs_interp.specs.Hosts.{FitsPart, FitsProgram}
 use Rattle.njs_convert.specs.FirstHeap.{slots_of, nameless, StandsFor}

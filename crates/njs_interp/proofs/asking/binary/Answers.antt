@@ -1,5 +1,4 @@
 use Rattle.std.proofs.Common.{◌≡◌, ◌∷◌, [], sym, ap, ◌∙◌, subst}
-use Rattle.njs_shared.specs.Heap.{Heap}
 use Rattle.njs_clone.specs.Content.{content}
 use Rattle.njs_code.specs.declared.op.Kind.TheVariants as kind
 use Rattle.njs_code.specs.Effects.{depth_left}
@@ -9,7 +8,7 @@ use Rattle.njs_meaning.specs.Operations.{binary}
 use Rattle.njs_convert.specs.Tells.{ShowsValue}
 use Rattle.njs_simul.specs.Stacks as plain
 use Rattle.njs_simul.specs.Stacks.{push}
-use Rattle.njs_simul.specs.Step.{Action, Goes, on, act}
+use Rattle.njs_simul.specs.Step.{Goes, on, act}
 use Rattle.njs_interp.specs.declared.stacks.Stacks.{Stacks}
 use Rattle.njs_interp.specs.Plain.{plain_stacks}
 use Rattle.njs_interp.specs.Acts.{Acts}

@@ -1,18 +1,11 @@
 use Rattle.std.proofs.Common.{◌≡◌, ◌∷◌, ◌++◌, [], sym, ap, ◌∙◌, subst}
-use Rattle.njs_value.specs.declared.TextId.{TextId}
-use Rattle.njs_value.specs.declared.Value.{Value}
-use Rattle.njs_shared.specs.Heap.{Heap}
-use Rattle.njs_meaning.specs.References.{Reference}
 use Rattle.njs_clone.specs.Content.{content}
 use Rattle.njs_code.specs.declared.op.Kind.TheVariants as kind
 use Rattle.njs_code.specs.Effects.{depth_left}
-use Rattle.njs_meaning.specs.Values.{PlainValue}
-use Rattle.njs_meaning.specs.Running.{Calls}
 use Rattle.njs_meaning.specs.Meaning.{member_by}
-use Rattle.njs_convert.specs.Tells.{Tells}
 use Rattle.njs_simul.specs.Stacks as plain
 use Rattle.njs_simul.specs.Stacks.{with_operands, context}
-use Rattle.njs_simul.specs.Step.{Action, Goes, on, act, operands_of}
+use Rattle.njs_simul.specs.Step.{Goes, on, act, operands_of}
 use Rattle.njs_interp.specs.declared.stacks.Stacks.{Stacks}
 use Rattle.njs_interp.specs.Plain.{plain_stacks}
 use Rattle.njs_interp.specs.Acts.{Acts}

@@ -5,8 +5,7 @@ use Rattle.njs_shared.specs.Fits.{FitsValue}
 use Rattle.njs_clone.specs.Content.{content}
 use Rattle.njs_code.specs.declared.op.Kind.TheVariants as kind
 use Rattle.njs_meaning.specs.Members.{names_in}
-use Rattle.njs_simul.specs.Stacks as plain
-use Rattle.njs_simul.specs.Step.{Action, act}
+use Rattle.njs_simul.specs.Step.{act}
 use Rattle.njs_convert.specs.declared.stop.Stop.TheVariants.{NoMemory}
 use Rattle.njs_interp.specs.declared.stacks.Stacks.{Stacks}
 use Rattle.njs_interp.specs.Plain.{plain_stacks}

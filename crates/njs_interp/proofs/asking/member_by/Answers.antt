@@ -1,4 +1,4 @@
-use Rattle.std.proofs.Common.{◌≡◌, Err, refl, sym, subst}
+use Rattle.std.proofs.Common.{Err, refl, sym, subst}
 use Rattle.njs_value.specs.declared.Cause.TheVariants.{NullBase}
 use Rattle.njs_value.specs.declared.TextId.{TextId}
 use Rattle.njs_clone.specs.Content.{content}

@@ -1,22 +1,22 @@
 use Rattle.std.proofs.Common.{◌≡◌, ℤ, ◌∷◌, [], sym, ap, ◌∙◌, subst}
 use Rattle.njs_value.specs.declared.Value.{Value}
-use Rattle.njs_shared.specs.Heap.{Heap, sizes}
+use Rattle.njs_shared.specs.Heap.{sizes}
 use Rattle.njs_shared.specs.Fits.{FitsValue}
 use Rattle.njs_meaning.specs.Primitives.{Number}
 use Rattle.njs_clone.specs.Content.{content}
 use Rattle.njs_code.specs.declared.op.Kind.TheVariants as kind
 use Rattle.njs_code.specs.Effects.{depth_left}
-use Rattle.njs_meaning.specs.Values.{PlainValue, Simple}
+use Rattle.njs_meaning.specs.Values.{Simple}
 use Rattle.njs_meaning.specs.Running.{Calls}
 use Rattle.njs_meaning.specs.Conversions.{to_number}
-use Rattle.njs_convert.specs.Tells.{Tells, ShowsNumber, FitsAnswer}
+use Rattle.njs_convert.specs.Tells.{Tells, FitsAnswer}
 use Rattle.njs_simul.specs.Stacks as plain
 use Rattle.njs_simul.specs.Stacks.{push}
-use Rattle.njs_simul.specs.Step.{Action, Goes, on, act}
+use Rattle.njs_simul.specs.Step.{Goes, on, act}
 use Rattle.njs_interp.specs.declared.stacks.Stacks.{Stacks}
 use Rattle.njs_interp.specs.Plain.{plain_stacks}
 use Rattle.njs_interp.specs.Acts.{Acts}
-use Rattle.njs_interp.specs.Asked.{alone, number_answer}
+use Rattle.njs_interp.specs.Asked.{alone}
 use Rattle.njs_interp.proofs.Kept.{Sits-widened, stacks-widened}
 use Rattle.njs_interp.proofs.Further.{grown_widens}
 use Rattle.njs_interp.proofs.AskedMoves.{to_number_takes, to_number_gives}

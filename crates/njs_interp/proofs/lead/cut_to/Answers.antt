@@ -1,4 +1,4 @@
-use Rattle.std.proofs.Common.{◌-◌, ◌∙◌, ap, length, reverse, drop}
+use Rattle.std.proofs.Common.{◌∙◌, ap, reverse}
 use Rattle.njs_interp.proofs.Piles.{cut_reverse}
 use Rattle.njs_interp.proofs.lead.cut_to.Goals as goal
 

@@ -1,4 +1,4 @@
-use Rattle.std.proofs.Common.{◌≡◌, ℕ, ◌<◌, ◌≤◌, sym, subst, arith}
+use Rattle.std.proofs.Common.{◌≡◌, ◌<◌, arith}
 use Rattle.njs_shared.specs.Heap.{sizes}
 use Rattle.njs_code.specs.Effects.{depth_left}
 use Rattle.njs_interp.specs.Leading.{place_by}

@@ -1,10 +1,5 @@
-use Rattle.std.proofs.Common.{ℕ, Some, None, refl, sym, ap, subst, ◌∙◌}
-use Rattle.njs_code.specs.declared.op.Address.{Address}
 use Rattle.njs_code.specs.Effects.{depth_left}
-use Rattle.njs_interp.specs.Leading.{Takes, GoesBy, FitsTaking, Outward, FoundThere}
 use Rattle.njs_interp.proofs.Leading.{outward_starts, outward_there, outward_within, outward_on, outward_taken, outward_further, address_falls}
-use Rattle.njs_simul.specs.Fits.{Good}
-use Rattle.njs_interp.specs.Plain.{plain_ending}
 use Rattle.njs_interp.proofs.lead.outward.Goals as goal
 
 pub loop-around-init : goal.loop-around-init

@@ -1,4 +1,4 @@
-use Rattle.std.proofs.Common.{◌≡◌, ℕ, Some, Ok, Err, length, map, slice_get, ap, refl, sym, subst, ◌∙◌}
+use Rattle.std.proofs.Common.{◌≡◌, Some, Err, length, map, slice_get, ap, refl, sym, subst, ◌∙◌}
 use Rattle.njs_shared.specs.Heap.{Heap}
 use Rattle.njs_clone.specs.Content.{content}
 use Rattle.njs_code.specs.declared.code.Code.{Code}
@@ -10,7 +10,6 @@ use Rattle.njs_meaning.specs.Functions.{names_of_scope, first_variables}
 use Rattle.njs_meaning.specs.State.{State}
 use Rattle.njs_convert.specs.Tells.{Tells, ShowsValue}
 use Rattle.njs_convert.specs.declared.stop.Stop.TheVariants.{Fuel}
-use Rattle.njs_interp.specs.Calling.{own_slots}
 use Rattle.njs_interp.proofs.Paying.{err_same}
 use Rattle.njs_interp.proofs.Scripts.{function_is, own_count, frame_of, body_from, script_is, body_runs, body_filled, paid_tells, spent_tells}
 use Rattle.njs_interp.proofs.script.call_script.Goals as goal

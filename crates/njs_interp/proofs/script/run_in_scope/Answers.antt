@@ -1,5 +1,4 @@
-use Rattle.std.proofs.Common.{◌≡◌, ℕ, ◌<◌, ◌++◌, ◌∷◌, [], List, Some, length, ap, refl, sym, subst, ◌∙◌, arith}
-use Rattle.std.specs.List.{AllByRecursion}
+use Rattle.std.proofs.Common.{◌≡◌, ◌++◌, ◌∷◌, [], List, length, ap, refl, sym, subst, ◌∙◌, arith}
 use Rattle.njs_value.specs.declared.Value.{Value}
 use Rattle.njs_shared.specs.Heap.{Heap, sizes}
 use Rattle.njs_shared.specs.Fits.{FitsValue}
@@ -10,14 +9,14 @@ use Rattle.njs_simul.specs.Fits.{Good, CallsFare}
 use Rattle.njs_simul.specs.Program.{starting}
 use Rattle.njs_simul.specs.Runs.{Runs}
 use Rattle.njs_simul.proofs.Kept.{fares_scope}
-use Rattle.njs_interp.specs.Hosts.{behind_own}
 use Rattle.njs_interp.specs.Sits.{SlotsFrom}
 use Rattle.njs_interp.specs.Standing.{CallsKeep}
 use Rattle.njs_interp.specs.Tells.{IsFrame}
 use Rattle.njs_interp.specs.Calling.{own_slots, scope_filled}
 use Rattle.njs_interp.proofs.Kept.{all-more, FitsValue-widened, Widens-trans}
 use Rattle.njs_interp.proofs.Reached.{from-within}
-use Rattle.njs_interp.proofs.CallScopes.{filled-stands, filled-slots, counted-scopes, functions-none}
+use Rattle.njs_interp.proofs.CallScopes.{filled-stands, filled-slots, counted-scopes}
+use Rattle.njs_interp.proofs.FunctionsFitted.{functions_fit}
 use Rattle.njs_interp.proofs.Scripts.{own_of, own_params}
 use Rattle.njs_interp.proofs.Turning.{run_stopped}
 use Rattle.njs_interp.proofs.script.run_in_scope.Goals as goal
@@ -56,7 +55,7 @@ returns-in-Err-clause-fits g c =
     let h : Heap = c.args.machine.now in
     let mid : Heap = c.call_scope.new.machine in
     let grown = c.call_scope.ensures.grown in
-    g.met.C.Runner.fits_grown c.args.caller.now h mid c.requires.fits grown.widens (functions-none (g.C.Caller.lent c.args.caller.now).counts h mid grown)
+    g.met.C.Runner.fits_grown c.args.caller.now h mid c.requires.fits grown.widens (functions_fit (g.C.Caller.lent c.args.caller.now).counts h mid grown)
 
 pub run_code-requires-clause-scope : goal.run_code-requires-clause-scope
 run_code-requires-clause-scope g c =
@@ -84,7 +83,7 @@ run_code-requires-clause-fits g c =
     let h : Heap = c.args.machine.now in
     let mid : Heap = c.call_scope.new.machine in
     let grown = c.call_scope.ensures.grown in
-    g.met.C.Runner.fits_grown c.args.caller.now h mid c.requires.fits grown.widens (functions-none (g.C.Caller.lent c.args.caller.now).counts h mid grown)
+    g.met.C.Runner.fits_grown c.args.caller.now h mid c.requires.fits grown.widens (functions_fit (g.C.Caller.lent c.args.caller.now).counts h mid grown)
 
 pub returns-clause-told : goal.returns-clause-told
 returns-clause-told g c = λ k. record {

@@ -1,4 +1,4 @@
-use Rattle.std.proofs.Common.{◌≡◌, ◌∙◌, ◌-◌, ◌+◌, sym, ap, Some, None, refl, arith}
+use Rattle.std.proofs.Common.{◌≡◌, ◌∙◌, ◌-◌, sym, ap, Some, None, arith}
 use Rattle.njs_interp.specs.Slots.{outwards}
 use Rattle.njs_interp.proofs.Reached.{outwards-step}
 use Rattle.njs_interp.proofs.slots.outwards.Goals as goal

@@ -1,5 +1,5 @@
 use Rattle.njs_interp.proofs.Moves.{store_takes, store_gives}
-use Rattle.njs_interp.proofs.Reached.{ready-scope, ready-slot, ready-operand, top-fits, store-names, store-told, put-leaves, put-grown}
+use Rattle.njs_interp.proofs.Reached.{ready-scope, ready-slot, ready-operand, store-names, store-told, put-leaves, put-grown}
 use Rattle.njs_interp.proofs.slots.store.Goals as goal
 
 pub outwards-scope-requires : goal.outwards-scope-requires

@@ -1,5 +1,5 @@
 use Rattle.njs_interp.proofs.Moves.{store_global_takes, store_global_gives}
-use Rattle.njs_interp.proofs.Reached.{ready-outermost, ready-operand, top-fits, counted-within, store_global-names, store_global-told, put-leaves, put-grown}
+use Rattle.njs_interp.proofs.Reached.{ready-outermost, ready-operand, counted-within, store_global-names, store_global-told, put-leaves, put-grown}
 use Rattle.njs_interp.proofs.slots.store_global.Goals as goal
 
 pub top-value-requires : goal.top-value-requires

@@ -1,8 +1,8 @@
-use Rattle.std.proofs.Common.{◌≡◌, Bool, Ok, sym, ap, ◌∙◌, subst}
+use Rattle.std.proofs.Common.{◌≡◌, Ok, sym, ap, ◌∙◌}
 use Rattle.njs_clone.specs.Content.{content}
-use Rattle.njs_meaning.specs.Values.{PlainValue, Simple, ObjectAt}
+use Rattle.njs_meaning.specs.Values.{Simple, ObjectAt}
 use Rattle.njs_meaning.specs.Operators as plain
-use Rattle.njs_meaning.specs.State.{State, Gives}
+use Rattle.njs_meaning.specs.State.{Gives}
 use Rattle.njs_meaning.specs.Operations.{equal_to_object, equals}
 use Rattle.njs_interp.specs.Alone.{ShowsTruth}
 use Rattle.njs_interp.proofs.Alone.{object_is, simple_content}

@@ -1,7 +1,6 @@
 use Rattle.std.proofs.Common.{◌≡◌, ℤ, ap, subst, Ok, Err, FitsSigned, w64, to_z, of_z, rules}
 use Rattle.std.proofs.lemmas.Int.{to_z-of_z}
 use Rattle.njs_meaning.specs.Values.{Simple}
-use Rattle.njs_shared.specs.Heap.{sizes}
 use Rattle.njs_clone.specs.Content.{content}
 use Rattle.njs_meaning.specs.Primitives.{Number}
 use Rattle.njs_meaning.specs.Operators.{binary_of}

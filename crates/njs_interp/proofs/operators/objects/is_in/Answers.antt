@@ -1,16 +1,14 @@
-use Rattle.std.proofs.Common.{◌≡◌, Bool, Ok, Err, Some, refl, sym, ap, subst, ◌∙◌}
-use Rattle.std.specs.Prelude.{slice_index_or}
+use Rattle.std.proofs.Common.{◌≡◌, Bool, Ok, Err, sym, ap, ◌∙◌}
 use Rattle.njs_value.specs.declared.Value.{Value}
 use Rattle.njs_clone.specs.Content.{content}
 use Rattle.njs_clone.specs.StandsFor.{plain_objects}
 use Rattle.njs_meaning.specs.Primitives.{Truth}
-use Rattle.njs_meaning.specs.Values.{PlainValue, Simple, ObjectAt}
-use Rattle.njs_meaning.specs.PlainHeap.{PlainObject}
+use Rattle.njs_meaning.specs.Values.{Simple, ObjectAt}
 use Rattle.njs_meaning.specs.Conversions.{to_text}
 use Rattle.njs_meaning.specs.Members.{has_member}
 use Rattle.njs_meaning.specs.Operations.{truth, is_in, binary}
 use Rattle.njs_members.proofs.Gained.{text-read}
-use Rattle.njs_convert.specs.Tells.{Tells, ShowsText, ShowsValue}
+use Rattle.njs_convert.specs.Tells.{ShowsText, ShowsValue}
 use Rattle.njs_convert.proofs.Grown.{Grows-Extends}
 use Rattle.njs_convert.proofs.Outcomes.{then_tells}
 use Rattle.njs_interp.proofs.Alone.{counts_alone, counts_error, object_is}

@@ -1,5 +1,4 @@
-use Rattle.std.proofs.Common.{◌≡◌, refl, subst, ◌∙◌, Ok, Err}
-use Rattle.njs_shared.specs.Heap.{sizes}
+use Rattle.std.proofs.Common.{◌≡◌, subst, ◌∙◌, Ok, Err}
 use Rattle.njs_clone.specs.Content.{content}
 use Rattle.njs_tree.specs.declared.tree.BinaryOp.TheVariants.{Add}
 use Rattle.njs_meaning.specs.declared.level.Hint.TheVariants.{Any}

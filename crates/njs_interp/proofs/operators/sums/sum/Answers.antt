@@ -1,10 +1,9 @@
-use Rattle.std.proofs.Common.{◌≡◌, Ok, Err, sym, subst}
+use Rattle.std.proofs.Common.{sym, subst}
 use Rattle.njs_tree.specs.declared.tree.BinaryOp.TheVariants.{Add}
-use Rattle.njs_value.specs.declared.Value.{Value}
 use Rattle.njs_shared.specs.Heap.{sizes}
 use Rattle.njs_shared.specs.Fits.{FitsValue}
 use Rattle.njs_meaning.specs.Operators.{binary_of}
-use Rattle.njs_meaning.specs.Operations.{answered, paid}
+use Rattle.njs_meaning.specs.Operations.{answered}
 use Rattle.njs_convert.specs.Tells.{Tells, ShowsValue}
 use Rattle.njs_convert.proofs.Grown.{Grows-Extends}
 use Rattle.njs_interp.proofs.Alone.{alone}
