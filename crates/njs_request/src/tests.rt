@@ -248,6 +248,7 @@ fn status_case<L: Ledger>(
     steps: &mut Steps<L>,
 ) -> Result<(), Fail> {
     let (number, is_answered) = case;
+    let wanted = u16::try_from(number).unwrap_or(0);
     let shared = Shared::empty(alloc);
     let mut machine = Machine::clone_of(alloc, &shared);
     let entry = enter(alloc, &mut machine, steps)?;
@@ -265,7 +266,7 @@ fn status_case<L: Ledger>(
         steps,
     );
     if is_answered {
-        assert!(rt; answers(answer, caller, number as u16, "null"));
+        assert!(rt; answers(answer, caller, wanted, "null"));
     } else {
         assert!(rt; throws(rt, &machine, answer, caller, "argument range"));
     }
