@@ -3,7 +3,7 @@ use Rattle.std.proofs.Common.{◌≡◌, ℕ, ◌+◌, List, [], ◌++◌, subst
 use Rattle.std.proofs.lemmas.List.{append_assoc, append-nil}
 use Rattle.njs_code.specs.declared.op.Op.{Op}
 use Rattle.njs_meaning.specs.declared.place.Place.{Place}
-use Rattle.njs_gen_expr.specs.Written.{Progress, Draft, draft, Holds}
+use Rattle.njs_gen_expr.specs.Written.{Progress, draft, Holds}
 
 pub recount : (w : Progress) (ops : List Op) (n m : ℕ) (places : List Place) (functions : ℕ) → n ≡ m → Holds w (draft ops n places functions) → Holds w (draft ops m places functions)
 recount w ops n m places functions same h = subst (λ k. Holds w (draft ops k places functions)) same h

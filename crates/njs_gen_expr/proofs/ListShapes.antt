@@ -1,14 +1,12 @@
 -- How the parts in lists are written, the last first.
-use Rattle.std.proofs.Common.{◌≡◌, ℕ, zero, suc, ◌+◌, ◌≤◌, ◌<◌, List, [], ◌∷◌, ◌++◌, length, map, drop, get_or, Option, None, Some, refl, sym, ap, subst, arith, ◌∙◌}
-use Rattle.std.proofs.lemmas.List.{append-nil, drop_more, drop_all}
+use Rattle.std.proofs.Common.{◌≡◌, ℕ, suc, ◌+◌, ◌<◌, List, [], ◌∷◌, ◌++◌, length, map, drop, get_or, Option, None, Some, refl, sym, ap, subst, arith, ◌∙◌}
+use Rattle.std.proofs.lemmas.List.{drop_more}
 use Rattle.std.specs.Fmt.{decimal}
 use Rattle.std.specs.Option.{option_map}
 use Rattle.njs_tree.specs.declared.tree.Expr.{Expr}
 use Rattle.njs_code.specs.declared.op.Kind.{Kind}
 use Rattle.njs_code.specs.declared.op.Kind.TheVariants as kind
-use Rattle.njs_code.specs.declared.op.Op.{Op}
-use Rattle.njs_meaning.specs.declared.place.Place.{Place}
-use Rattle.njs_meaning.specs.Parts.{leaf, one, two, each, held, each_held, each_named}
+use Rattle.njs_meaning.specs.Parts.{one, two, each, held, each_held, each_named}
 use Rattle.njs_simul.specs.Emission as emit
 use Rattle.njs_simul.specs.Emission.{Coded, Emits, value, value_size, values, values_size, deeper, op}
 use Rattle.njs_simul.specs.Compiled.{Of_expression, expression}

@@ -5,7 +5,7 @@ use Rattle.njs_tree.specs.declared.tree.ExprNode.TheVariants.{Member as MemberNo
 use Rattle.njs_tree.specs.declared.tree.UpdateOp.{UpdateOp}
 use Rattle.njs_meaning.specs.Parts.{one}
 use Rattle.njs_simul.specs.Emission as emit
-use Rattle.njs_simul.specs.Compiled.{Of_expression, expression}
+use Rattle.njs_simul.specs.Compiled.{expression}
 
 pub member_is : (e a : Expr) (text : List ℕ) → e.node ≡ MemberNode a text → expression e ≡ one (expression a) (λ c. emit.member c text)
 unfolding expression

@@ -1,5 +1,5 @@
 -- How the parts of an expression are written, one in front of the other.
-use Rattle.std.proofs.Common.{◌≡◌, ℕ, suc, ◌+◌, List, [], ◌++◌, length, true, false, refl, sym, ap, subst, arith, ◌∙◌}
+use Rattle.std.proofs.Common.{◌≡◌, ℕ, suc, ◌+◌, List, [], ◌++◌, length, refl, sym, ap, subst, arith}
 use Rattle.std.proofs.lemmas.List.{append-nil, append_assoc}
 use Rattle.njs_tree.specs.declared.tree.UnaryOp.{UnaryOp}
 use Rattle.njs_tree.specs.declared.tree.UpdateOp.{UpdateOp}

@@ -1,5 +1,5 @@
 -- What expressions are before their values are asked, each name with its place.
-use Rattle.std.specs.Prelude.{◌≡◌, ℕ, ◌+◌, List}
+use Rattle.std.specs.Prelude.{◌≡◌, ℕ, ◌+◌}
 use Rattle.njs_tree.specs.declared.tree.UnaryOp.{UnaryOp}
 use Rattle.njs_tree.specs.declared.tree.UnaryOp.TheVariants as sign
 use Rattle.njs_code.specs.declared.op.Kind.TheVariants as kind

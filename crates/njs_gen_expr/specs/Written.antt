@@ -1,6 +1,5 @@
 -- What is written of the code of one function: a part of it is written in front of what stands behind it.
-use Rattle.std.specs.Prelude.{◌≡◌, ℕ, suc, ◌<◌, List, ◌∷◌, reverse, length, min, Bool, true, false, Option, Some, None}
-use Rattle.njs_code.specs.declared.op.Address.{Address}
+use Rattle.std.specs.Prelude.{◌≡◌, ℕ, suc, ◌<◌, List, ◌∷◌, length, min, Bool, true, false, Option, Some, None}
 use Rattle.njs_code.specs.declared.op.Depth.{Depth}
 use Rattle.njs_code.specs.declared.op.Op.{Op}
 use Rattle.njs_meaning.specs.declared.place.Place.{Place}

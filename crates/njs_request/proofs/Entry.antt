@@ -1,5 +1,5 @@
 -- The objects of requests, once they are made.
-use Rattle.std.proofs.Common.{◌≡◌, ℕ, List, [], ◌∷◌, ◌++◌, Some, length, map, refl, sym, ap, ◌∙◌}
+use Rattle.std.proofs.Common.{◌≡◌, List, [], ◌∷◌, ◌++◌, Some, length, sym, ap, ◌∙◌}
 use Rattle.std.specs.Prelude.{Result, Ok, Err, OnOk, OnErr}
 use Rattle.std.proofs.lemmas.List.{map-append, length-map}
 use Rattle.njs_text.specs.declared.memory.NoMemory.{NoMemory}
@@ -8,8 +8,8 @@ use Rattle.njs_value.specs.declared.ObjId.{ObjId}
 use Rattle.njs_shared.specs.declared.object.Inner.TheVariants as inner
 use Rattle.njs_shared.specs.Heap.{Heap, HeapObject}
 use Rattle.njs_clone.specs.Content.{content, written}
-use Rattle.njs_clone.specs.Created.{object_of, with_object_of}
-use Rattle.njs_clone.specs.StandsFor.{mapped_object, content_inner, content_objects, plain_objects}
+use Rattle.njs_clone.specs.Created.{object_of}
+use Rattle.njs_clone.specs.StandsFor.{mapped_object, content_inner, plain_objects}
 use Rattle.njs_meaning.specs.Objects.{with_new_object}
 use Rattle.njs_convert.specs.Tells.{Grows}
 use Rattle.njs_convert.proofs.Grown.{Grows-same, Grows-objects}

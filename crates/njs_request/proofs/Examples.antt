@@ -1,5 +1,5 @@
 -- Small examples of what `return` means.
-use Rattle.std.proofs.Common.{◌≡◌, ℕ, List, [], ◌∷◌, None, Some, true, false, codes, pos, negsuc, refl}
+use Rattle.std.proofs.Common.{◌≡◌, ℕ, List, [], ◌∷◌, Some, true, codes, pos, negsuc, refl}
 use Rattle.njs_value.specs.declared.Cause.TheVariants.{WrongReceiver, ResponseState, BadArgument, NotNumber}
 use Rattle.njs_meaning.specs.declared.prototypes.Prototype.TheVariants as prototype
 use Rattle.njs_value.specs.declared.Class.TheVariants as class
@@ -9,7 +9,6 @@ use Rattle.njs_meaning.specs.PlainHeap.{PlainObject, Plain}
 use Rattle.njs_meaning.specs.State.{Response, State, Outcome, Gives, Spent, Call}
 use Rattle.njs_meaning.specs.Errors.{throw, hidden}
 use Rattle.njs_meaning.specs.Functions.{object_with}
-use Rattle.http_out.specs.declared.reply.Reply.{Reply}
 use Rattle.njs_request.specs.EntryObjects.{built_in, request}
 use Rattle.njs_request.specs.Response.{no_answer, reply_of}
 use Rattle.njs_request.specs.Return.{plain_head, whole, return}

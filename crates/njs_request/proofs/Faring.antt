@@ -1,5 +1,5 @@
 -- The rows of requests lead from good states to good ones, where calls of values do.
-use Rattle.std.proofs.Common.{◌≡◌, ℕ, ℤ, List, Option, Bool, refl, arith}
+use Rattle.std.proofs.Common.{ℕ, ℤ, List, Bool, refl, arith}
 use Rattle.njs_value.specs.declared.Cause.TheVariants.{WrongReceiver, ResponseState, BadArgument}
 use Rattle.njs_value.specs.declared.Row.{Row}
 use Rattle.njs_meaning.specs.Primitives.{Undefined, Null, Truth, Number, Characters}

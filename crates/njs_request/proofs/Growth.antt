@@ -1,5 +1,5 @@
 -- What a heap has it has when it has grown.
-use Rattle.std.proofs.Common.{◌≡◌, ℕ, ◌<◌, ◌≤◌, List, [], ◌∷◌, ◌++◌, length, ap, refl, ◌∙◌, arith, length-append}
+use Rattle.std.proofs.Common.{◌≡◌, ℕ, [], length, ap, refl, ◌∙◌, arith, length-append}
 use Rattle.std.specs.Prelude.{slice_index_or, Result, Ok, Err}
 use Rattle.std.proofs.lemmas.List.{get_or_append_left}
 use Rattle.njs_value.specs.declared.Value.{Value}

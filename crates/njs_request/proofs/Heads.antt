@@ -1,5 +1,5 @@
 -- Heads from which a response may be made.
-use Rattle.std.proofs.Common.{◌≡◌, ◌≤◌, ◌<◌, ℕ, List, [], All, Option, Some, None, Bool, true, false, refl, ap, ◌∙◌, arith, codes, encode_utf8_all}
+use Rattle.std.proofs.Common.{◌≡◌, ◌≤◌, ℕ, List, [], refl, ap, ◌∙◌, arith, codes, encode_utf8_all}
 use Rattle.std.proofs.lemmas.List.Elements.{All-nil}
 use Rattle.std.proofs.lemmas.List.Sums.{AllPass-from_list_all}
 use Rattle.std.specs.Char.{encode_utf8}

@@ -7,14 +7,14 @@ use Rattle.njs_value.specs.declared.Cause.TheVariants.{WrongReceiver, ResponseSt
 use Rattle.njs_value.specs.declared.Row.{Row}
 use Rattle.njs_meaning.specs.Primitives.{Undefined, Null, Truth, Number, Characters}
 use Rattle.njs_meaning.specs.Values.{PlainValue, Simple, ObjectAt}
-use Rattle.njs_meaning.specs.State.{Head, State, Outcome, Spent, Call}
+use Rattle.njs_meaning.specs.State.{Head, State, Spent, Call}
 use Rattle.njs_meaning.specs.Replies.{state_of}
 use Rattle.njs_meaning.specs.Errors.{throw}
 use Rattle.njs_meaning.specs.Conversions.{to_number}
 use Rattle.njs_meaning.specs.Running.{Calls}
 use Rattle.njs_convert.proofs.Stopped.{then_keeps, throw_keeps, to_number_keeps, to_text_keeps}
 use Rattle.njs_request.specs.Response.{is_open}
-use Rattle.njs_request.specs.Return.{argument, optional_text, is_request, status_from, plain_head, whole, answered, answer_text, answer_number, answer_status, answer_once, answer_on, return}
+use Rattle.njs_request.specs.Return.{argument, optional_text, is_request, status_from, plain_head, answered, answer_text, answer_number, answer_status, answer_once, answer_on, return}
 use Rattle.njs_request.specs.Rows.{answers}
 
 module _ (stopped : State → Type 0) (same : (s t : State) → t.zones ≡ s.zones → t.asked ≡ s.asked → stopped s → stopped t) where

@@ -1,12 +1,12 @@
 -- How the answers of a request's rows tell what the rows mean.
-use Rattle.std.proofs.Common.{◌≡◌, ℕ, ◌-◌, ◌<◌, ◌≤◌, List, [], Option, Some, None, Bool, true, false, cond, Result, Ok, Err, refl, sym, ap, ◌∙◌, subst, arith, slice_get}
+use Rattle.std.proofs.Common.{◌≡◌, ℕ, ◌-◌, ◌<◌, ◌≤◌, List, [], true, false, cond, Result, Ok, Err, refl, sym, ap, ◌∙◌, subst, arith}
 use Rattle.std.proofs.lemmas.Bool.{le-ltb, lt-ltb}
 use Rattle.std.specs.Prelude.{nat_lt, OnErr}
 use Rattle.njs_value.specs.declared.TextId.{TextId}
 use Rattle.njs_value.specs.declared.Value.{Value}
 use Rattle.njs_value.specs.declared.Value.TheVariants as value
 use Rattle.njs_clone.specs.Content.{content}
-use Rattle.njs_meaning.specs.Values.{PlainValue, Simple}
+use Rattle.njs_meaning.specs.Values.{PlainValue}
 use Rattle.njs_meaning.specs.State.{State, Outcome, Gives, Throws, Spent, Asks, Call}
 use Rattle.njs_meaning.specs.Replies.{state_of}
 use Rattle.njs_meaning.specs.Conversions.{to_text}

@@ -1,8 +1,8 @@
 -- What the calls of the tests' caller mean: each takes a tick, answers the request itself, and gives a number.
-use Rattle.std.specs.Prelude.{ℕ, ℤ, ◌-◌, ◌==◌, List, codes, if◌then◌else◌}
+use Rattle.std.specs.Prelude.{ℤ, ◌-◌, ◌==◌, codes, if◌then◌else◌}
 use Rattle.njs_meaning.specs.Primitives.{Number}
-use Rattle.njs_meaning.specs.Values.{PlainValue, Simple}
-use Rattle.njs_meaning.specs.State.{State, Outcome, Gives, Spent, Call}
+use Rattle.njs_meaning.specs.Values.{Simple}
+use Rattle.njs_meaning.specs.State.{State, Gives, Spent, Call}
 use Rattle.njs_request.specs.Return.{plain_head, whole}
 
 abbrev pub after_call : State → State

@@ -1,5 +1,5 @@
 -- What the handler of a request has answered so far, and how a host keeps it.
-use Rattle.std.specs.Prelude.{◌≡◌, ◌≤◌, ℕ, List, [], length, All, Bool, true, false, Option, None, is_some, not, ◌||◌, if◌then◌else◌}
+use Rattle.std.specs.Prelude.{◌≡◌, ◌≤◌, ℕ, List, [], length, All, Bool, false, Option, None, is_some, not, ◌||◌, if◌then◌else◌}
 use Rattle.std.specs.Option.{option_map}
 use Rattle.http_out.specs.declared.reply.Reply.{Reply}
 use Rattle.http_out.specs.Reply.{IsField, IsValue}

@@ -5,7 +5,7 @@ use Rattle.std.proofs.lemmas.List.{append-nil}
 use Rattle.njs_props.specs.Names.{same_name}
 use Rattle.njs_meaning.specs.Parts.{Declared}
 use Rattle.njs_meaning.specs.Places.{Bindings, assignable}
-use Rattle.njs_meaning.specs.Functions.{each_once, arguments_name, scope_names}
+use Rattle.njs_meaning.specs.Functions.{each_once, scope_names}
 use Rattle.njs_scope.specs.Uses.{Of_part}
 use Rattle.njs_scope.specs.Planned.{module_names}
 use Rattle.njs_scope.specs.Walked.{once_more, each_once_more, declared_names, arguments_if}

@@ -1,10 +1,6 @@
 -- Names of scopes: their slots, and each once.
-use Rattle.std.proofs.Common.{◌≡◌, ℕ, zero, suc, ◌+◌, List, [], ◌∷◌, ◌++◌, map, reverse, Bool, true, false, ◌||◌, Option, None, Some, if◌then◌else◌, refl, sym, ap, ◌∙◌, arith}
-use Rattle.std.specs.List.{list_any}
+use Rattle.std.proofs.Common.{◌≡◌, ℕ, suc, ◌+◌, Bool, Option, None, Some, refl, ap, arith}
 use Rattle.std.specs.Option.{option_map}
-use Rattle.njs_props.specs.Names.{same_name}
-use Rattle.njs_meaning.specs.Places.{Bindings, slot_of}
-use Rattle.njs_scope.specs.Walked.{once_more, each_once_more}
 
 -- a slot, so many names further on
 abbrev pub after : ℕ → Option (ℕ × Bool) → Option (ℕ × Bool)

@@ -2,7 +2,7 @@
 use Rattle.std.specs.Prelude.{List, [], ◌∷◌, ◌++◌, map, false, codes}
 use Rattle.njs_tree.specs.declared.tree.Script.{Script}
 use Rattle.njs_meaning.specs.declared.place.Place.{Place}
-use Rattle.njs_meaning.specs.Places.{Bindings, Around, assignable}
+use Rattle.njs_meaning.specs.Places.{Bindings, assignable}
 use Rattle.njs_meaning.specs.Functions.{each_once}
 use Rattle.njs_scope.specs.Uses.{Of_part, items_part}
 

@@ -1,5 +1,5 @@
 -- The scopes that begin in each part of a script, and where the names stand that it uses (ECMA-262 5.1 §10.2, §10.5, §12.14, §13).
-use Rattle.std.specs.Prelude.{ℕ, ◌+◌, List, [], ◌∷◌, ◌++◌, map, length, Bool, true, false, Option, Some, None, codes, bytes_eq}
+use Rattle.std.specs.Prelude.{ℕ, ◌+◌, List, [], ◌∷◌, ◌++◌, map, length, true, false, Option, Some, None, codes, bytes_eq}
 use Rattle.njs_tree.specs.declared.tree.Expr.{Expr}
 use Rattle.njs_tree.specs.declared.tree.Stmt.{Stmt}
 use Rattle.njs_tree.specs.declared.tree.Case.{Case}

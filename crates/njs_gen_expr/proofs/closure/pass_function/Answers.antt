@@ -1,4 +1,4 @@
-use Rattle.std.proofs.Common.{◌≡◌, ℕ, ◌+◌, ◌++◌, length, refl, arith}
+use Rattle.std.proofs.Common.{◌+◌, ◌++◌, refl, arith}
 use Rattle.njs_scope.specs.Uses as uses
 use Rattle.njs_gen_expr.specs.Trees.{function}
 use Rattle.njs_gen_expr.specs.Written.{draft}

@@ -1,5 +1,4 @@
-use Rattle.std.proofs.Common.{◌≡◌, ℕ, ◌+◌, ◌++◌, map, length, refl, arith}
-use Rattle.njs_meaning.specs.Parts.{each}
+use Rattle.std.proofs.Common.{◌+◌, ◌++◌, refl, arith}
 use Rattle.njs_scope.specs.Uses as uses
 use Rattle.njs_gen_expr.specs.Trees as code
 use Rattle.njs_gen_expr.specs.Written.{draft}

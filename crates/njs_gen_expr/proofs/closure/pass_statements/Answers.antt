@@ -1,4 +1,4 @@
-use Rattle.std.proofs.Common.{◌≡◌, ℕ, ◌+◌, ◌++◌, map, length, refl, arith}
+use Rattle.std.proofs.Common.{◌+◌, ◌++◌, map, refl, arith}
 use Rattle.njs_meaning.specs.Parts.{each}
 use Rattle.njs_scope.specs.Uses as uses
 use Rattle.njs_gen_expr.specs.Trees as code

@@ -6,7 +6,7 @@ use Rattle.njs_meaning.specs.Parts.{leaf, three}
 use Rattle.njs_tree.specs.declared.tree.Expr.{Expr, the_lemmas}
 use Rattle.njs_tree.specs.declared.tree.Stmt.{Stmt}
 use Rattle.njs_tree.specs.declared.tree.Case.{Case, out-Case}
-use Rattle.njs_tree.specs.declared.tree.FunctionTree.{FunctionTree, out-FunctionTree}
+use Rattle.njs_tree.specs.declared.tree.FunctionTree.{out-FunctionTree}
 use Rattle.std.proofs.lemmas.List.{length-append}
 use Rattle.njs_scope.specs.Uses as uses
 use Rattle.njs_scope.specs.Uses.{expression, statement, function, branch, first, head}

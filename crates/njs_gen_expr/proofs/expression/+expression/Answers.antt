@@ -1,8 +1,6 @@
 use Rattle.std.proofs.Common.{◌≡◌, ℕ, suc, ◌+◌, ◌-◌, ◌≤◌, drop, List, length, map, Option, Some, None, true, false, refl, sym, ap, ◌∙◌, subst, arith, rules}
 use Rattle.std.specs.Option.{option_map}
 use Rattle.njs_tree.specs.declared.tree.Expr.{Expr, the_lemmas}
-use Rattle.njs_tree.specs.declared.tree.UnaryOp.{UnaryOp}
-use Rattle.njs_tree.specs.declared.tree.UnaryOp.TheVariants as sign
 use Rattle.njs_code.specs.declared.op.Kind.TheVariants as kind
 use Rattle.njs_meaning.specs.Parts.{leaf, one, two, three, each, each_held, each_named}
 use Rattle.njs_simul.specs.Emission as emit
@@ -14,14 +12,14 @@ use Rattle.njs_gen_expr.specs.declared.here.Here.{Here}
 use Rattle.njs_gen_expr.specs.declared.reference.Reference.{Reference}
 use Rattle.njs_gen_expr.specs.Written.{Progress, IsGoing, Holds, Stands}
 use Rattle.njs_gen_expr.specs.References.{form_of, operator_count, operator_emits}
-use Rattle.njs_gen_expr.specs.Parts.{WroteTarget, WroteValue, begun_count, begun_value}
+use Rattle.njs_gen_expr.specs.Parts.{WroteValue, begun_count, begun_value}
 use Rattle.njs_tree.specs.declared.tree.ExprNode.TheVariants.{Update as UpdateNode}
 use Rattle.std.proofs.lemmas.List.{drop_all}
 use Rattle.njs_gen_expr.specs.Trees.{function}
 use Rattle.njs_gen_expr.proofs.Lists.{from_start}
 use Rattle.njs_gen_expr.proofs.ListShapes.{WroteValues, WroteElements, WroteFields, no_values, no_elements, no_fields, values_more, hole_more, element_more, fields_more, with_arguments, array_written, object_written}
 use Rattle.njs_gen_expr.proofs.Nodes.{member_is, update_is}
-use Rattle.njs_gen_expr.proofs.Shapes.{First, FirstTarget, Refers, Assigned, Behind, as_part, comma_written, both_written, logical_written, conditional_written, target_written, value_written, first_written, first_target_written, operator_written, member_written, assign_written, assign_by_written, kept_behind, steps_before, steps_behind}
+use Rattle.njs_gen_expr.proofs.Shapes.{First, FirstTarget, Refers, Assigned, as_part, comma_written, both_written, logical_written, conditional_written, target_written, value_written, first_written, first_target_written, operator_written, member_written, assign_written, assign_by_written, kept_behind, steps_before, steps_behind}
 use Rattle.njs_gen_expr.proofs.expression.+expression.Goals as goal
 
 -- what is told of a part that stands in a box

@@ -1,4 +1,4 @@
-use Rattle.std.proofs.Common.{◌≡◌, ℕ, drop}
+use Rattle.std.proofs.Common.{◌≡◌, drop}
 use Rattle.njs_gen_expr.specs.Written.{most_functions}
 use Rattle.njs_gen_expr.specs.Trees.{in_list, in_elements, in_fields, in_variables, in_statements, in_branches}
 use Rattle.njs_gen_expr.proofs.functions.+functions.Given as goal

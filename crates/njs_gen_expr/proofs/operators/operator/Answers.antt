@@ -1,10 +1,10 @@
-use Rattle.std.proofs.Common.{◌≡◌, ℕ, suc, ◌+◌, List, refl, subst, arith}
+use Rattle.std.proofs.Common.{◌≡◌, suc, ◌+◌, refl, arith}
 use Rattle.njs_tree.specs.declared.tree.UnaryOp.{UnaryOp}
 use Rattle.njs_tree.specs.declared.tree.UnaryOp.TheVariants as sign
 use Rattle.njs_code.specs.declared.op.Kind.TheVariants as kind
 use Rattle.njs_simul.specs.Emission as emit
 use Rattle.njs_simul.specs.Emission.{op, deeper}
-use Rattle.njs_gen_expr.specs.Written.{Progress, Draft, draft, Holds}
+use Rattle.njs_gen_expr.specs.Written.{Progress, Draft, Holds}
 use Rattle.njs_gen_expr.specs.References.{form_of, operator_count, operator_emits}
 use Rattle.njs_gen_expr.proofs.Drafts.{recount}
 use Rattle.njs_gen_expr.proofs.operators.operator.Goals as goal

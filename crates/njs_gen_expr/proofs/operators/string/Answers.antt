@@ -1,11 +1,5 @@
-use Rattle.std.proofs.Common.{◌≡◌, ℕ, suc, ◌+◌, List, [], ◌∷◌, ◌++◌, refl, ap, arith}
+use Rattle.std.proofs.Common.{ap}
 use Rattle.njs_code.specs.declared.op.Kind.TheVariants as kind
-use Rattle.njs_meaning.specs.Places.{place_in}
-use Rattle.njs_simul.specs.Emission as emit
-use Rattle.njs_simul.specs.Emission.{op, deeper, width}
-use Rattle.njs_gen_expr.specs.Written.{Draft, draft, Holds}
-use Rattle.njs_gen_expr.specs.References.{form_of}
-use Rattle.njs_gen_expr.proofs.Drafts.{recount, bare}
 use Rattle.njs_gen_expr.proofs.operators.string.Goals as goal
 
 pub returns-clause-written : goal.returns-clause-written

@@ -1,11 +1,10 @@
-use Rattle.std.proofs.Common.{◌≡◌, ℕ, suc, ◌+◌, List, [], ◌∷◌, ◌++◌, refl, ap, arith, rules}
+use Rattle.std.proofs.Common.{suc, refl, ap, rules}
 use Rattle.njs_code.specs.declared.op.Kind.TheVariants as kind
 use Rattle.std.specs.Prelude.{pos}
 use Rattle.std.specs.Str.{chars}
-use Rattle.njs_simul.specs.Emission as emit
 use Rattle.njs_simul.specs.Emission.{op, deeper}
 use Rattle.njs_props.specs.Names.{length_name}
-use Rattle.njs_gen_expr.specs.Written.{Draft, draft, Holds}
+use Rattle.njs_gen_expr.specs.Written.{Draft}
 use Rattle.njs_gen_expr.proofs.operators.with_length.Goals as goal
 
 pub returns-clause-written : goal.returns-clause-written

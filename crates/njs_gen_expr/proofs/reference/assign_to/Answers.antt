@@ -1,4 +1,4 @@
-use Rattle.std.proofs.Common.{◌≡◌, refl, ap, ◌∙◌}
+use Rattle.std.proofs.Common.{refl, ap, ◌∙◌}
 use Rattle.njs_meaning.specs.Places.{place_in}
 use Rattle.njs_simul.specs.Emission as emit
 use Rattle.njs_gen_expr.proofs.reference.assign_to.Goals as goal

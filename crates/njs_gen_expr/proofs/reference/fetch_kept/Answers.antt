@@ -1,10 +1,7 @@
-use Rattle.std.proofs.Common.{◌≡◌, refl, ap, ◌∙◌}
-use Rattle.njs_tree.specs.declared.tree.UnaryOp.TheVariants as sign
+use Rattle.std.proofs.Common.{refl, ap, ◌∙◌}
 use Rattle.njs_meaning.specs.Places.{place_in}
 use Rattle.njs_code.specs.declared.op.Kind.TheVariants as kind
 use Rattle.njs_simul.specs.Emission as emit
-use Rattle.njs_gen_expr.specs.Written.{draft, IsGoing}
-use Rattle.njs_gen_expr.proofs.Drafts.{recount}
 use Rattle.njs_gen_expr.proofs.reference.fetch_kept.Goals as goal
 
 pub returns-in-Value-clause-written : goal.returns-in-Value-clause-written

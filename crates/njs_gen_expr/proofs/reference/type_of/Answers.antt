@@ -1,9 +1,9 @@
-use Rattle.std.proofs.Common.{◌≡◌, ℕ, suc, ◌+◌, true, refl, ap, ◌∙◌, arith}
+use Rattle.std.proofs.Common.{suc, ◌+◌, refl, ap, ◌∙◌, arith}
 use Rattle.njs_tree.specs.declared.tree.UnaryOp.TheVariants as sign
 use Rattle.njs_meaning.specs.Places.{place_in}
 use Rattle.njs_code.specs.declared.op.Kind.TheVariants as kind
 use Rattle.njs_simul.specs.Emission as emit
-use Rattle.njs_gen_expr.specs.Written.{Draft, draft, IsGoing}
+use Rattle.njs_gen_expr.specs.Written.{Draft}
 use Rattle.njs_gen_expr.proofs.Drafts.{recount}
 use Rattle.njs_gen_expr.proofs.reference.type_of.Goals as goal
 

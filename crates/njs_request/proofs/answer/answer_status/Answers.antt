@@ -1,4 +1,4 @@
-use Rattle.std.proofs.Common.{◌≡◌, ◌∙◌, ℕ, ℤ, Option, Some, None, Err, refl, sym, ap, subst, FitsSigned, w64, to_z, of_z, rules}
+use Rattle.std.proofs.Common.{◌∙◌, ℕ, ℤ, Option, Err, refl, ap, subst, FitsSigned, w64, rules}
 use Rattle.std.proofs.lemmas.Int.{to_z-of_z}
 use Rattle.std.specs.Option.{option_map_or}
 use Rattle.njs_value.specs.declared.Cause.TheVariants.{BadArgument}
