@@ -53,3 +53,4 @@ pub mod ClosureScopes
 pub mod HeldTells
 pub mod Sorted
 pub mod NamesJump
+pub mod Distinct

@@ -1,6 +1,7 @@
 -- Calls of values, and of functions of scripts: the program that codes are of, and the scopes that calls begin with.
 use Rattle.std.specs.Prelude.{◌≡◌, ◌≤◌, ℕ, zero, suc, List, [], ◌∷◌, length, map, Bool, true, false, Option, Some, None, slice_get, Result}
 use Rattle.njs_tree.specs.declared.tree.Script.{Script}
+use Rattle.njs_tree.specs.Accepted.{IsAccepted}
 use Rattle.njs_tree.specs.Early.{repeats}
 use Rattle.njs_value.specs.declared.Cause.{Cause}
 use Rattle.njs_value.specs.declared.Cause.TheVariants.{NotFunction, NotConstructor}
@@ -45,6 +46,10 @@ use Rattle.njs_interp.specs.Tells.{IsFrame}
 -- no function of a script has two parameters of one name (ECMA-262 5.1 §13.1)
 pub record DistinctParameters (script : Script) : Type 0 where
   pub each : (number : ℕ) (f : Function) → slice_get (functions_of script) number ≡ Some f → repeats f.params ≡ false
+
+-- so it is of every script that is accepted
+abbrev pub AcceptedAreDistinct : Type 0
+AcceptedAreDistinct = (script : Script) → IsAccepted script → DistinctParameters script
 
 -- a program of scripts: codes are theirs, for the names of the outermost scope, and the names around their functions are known
 pub record CodesOf (codes : List Code) (k : Known) (program : Program) : Type 0 where

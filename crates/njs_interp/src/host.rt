@@ -71,6 +71,7 @@ pub trait Host: Sized {
         requires agreed { (h : Self) (k : Known) → (C.agreed h k → agrees h k) × (agrees h k → C.agreed h k) }
         requires halted { (h : Self) (k : Known) (s : State) → (C.halted h k s → halted h k s) × (halted h k s → C.halted h k s) }
         requires zones { (g h : Self) → zones g ≡ zones h → C.same_zones g h }
+        requires more { (c : C) (n k : ℕ) → n ≤ k → C.adds c n c k }
         requires may { C.may_call caller.old }
         requires fits { C.fits caller.old machine.old }
         requires first { first_count ≤ length machine.old.objects }
@@ -112,6 +113,7 @@ pub trait Host: Sized {
 }
 
 /// The ticks that are left.
+#[derive(Drop)]
 pub struct Fuel {
     pub left: u64,
 }
