@@ -9,3 +9,6 @@ pub mod Optionals
 pub mod Ends
 pub mod Functions
 pub mod Nodes
+pub mod Walks
+pub mod FunctionWalks
+pub mod Puts

@@ -1,3 +1,4 @@
 pub mod Sized
 pub mod Statements
 pub mod Functions
+pub mod Walked

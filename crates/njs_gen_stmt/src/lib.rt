@@ -9,6 +9,7 @@ mod parts;
 pub mod size;
 mod statement;
 mod switch;
+mod walk;
 #[cfg(test)]
 mod tests;
 
