@@ -12,7 +12,10 @@ use Rattle.njs_meaning.specs.Meaning.{Made as MadeFunction, declared_as}
 use Rattle.njs_meaning.specs.Parts.{Declared, Part, leaf, one, two, held, with_vars, with_declaration, without_declared, each}
 use Rattle.njs_meaning.specs.Places.{Around, Bindings, assignable, place_in}
 use Rattle.njs_simul.specs.Emission as emit
-use Rattle.njs_simul.specs.EmissionOfStatements.{CodedFunction, CodedStatement, slots_of}
+use Rattle.njs_simul.specs.EmissionOfStatements.{CodedFunction, CodedStatement, slots_of, at_start}
+use Rattle.njs_simul.specs.Counts.{operations_in}
+use Rattle.njs_simul.specs.Sizes.{function_size}
+use Rattle.njs_simul.proofs.Sizes.{sizes_are_true}
 use Rattle.njs_simul.specs.Compiled as compiled
 use Rattle.njs_simul.specs.Compiled.{Placed, Of_function, expression, statement, function_of, function_expression, further_in, in_call, names_in, function_in}
 use Rattle.njs_scope.specs.Uses as uses
@@ -25,7 +28,7 @@ use Rattle.njs_gen_stmt.specs.declared.walk.Walk.{Walk}
 use Rattle.njs_gen_stmt.specs.declared.walk.Begun.{Begun}
 use Rattle.njs_gen_stmt.specs.Functions.{told_all}
 use Rattle.njs_gen_stmt.specs.Statements.{in_turn, in_turn_uses, declared_in, declared_uses, caught, caught_uses}
-use Rattle.njs_gen_stmt.specs.Walked.{Found, found, Reached, Made, IsUnbroken, IsInside, Alike, Walked, Remembers, unwritten, code_in, coded, variables, variables_uses, declaration_part, declaration_uses}
+use Rattle.njs_gen_stmt.specs.Walked.{Found, found, Reached, Made, IsUnbroken, IsInside, Alike, Walked, Remembers, unwritten, is_crowded, any_crowded, code_in, coded, variables, variables_uses, declaration_part, declaration_uses}
 use Rattle.njs_gen_stmt.proofs.Walks.{retold, walked_leaf, walked_one, walked_two}
 
 or_none : (b : Bool) → b ≡ (b || false)
@@ -112,7 +115,7 @@ module _ (f : FunctionTree) (around : List ℕ) where
             let h2' = retold w2 ((g.functions ++ unwritten ∷ []) ++ nested) (g.functions ++ (unwritten ∷ nested)) ds ds B.names_arguments B.names_arguments g.scopes g.places
             (append_assoc g.functions (unwritten ∷ []) nested) refl refl h2 in
             let size : length nested ≡ B.size = length-map (B.functions (first + 1)) (λ (p : Placed). (p (own ∷ names)).code) ∙ t.alike.count (first + 1) in
-            let remembers = (told.1.0, told.1.1, λ (going : IsUnbroken w2.fault). told.1.2 (t.stays going)) in
+            let remembers : Remembers b g0 own w2.fault = (told.1.0, told.1.1, λ (going : IsUnbroken w2.fault). told.1.2 (t.stays going)) in
             let h3 = ends g0 own names (start + 1) nested ds B.names_arguments g.scopes g.places remembers inside (λ going. known1 (t.stays going)) size refl h2' in
             let whole : Bindings → ℕ → List FunctionCode → List FunctionCode = λ ns n fs. g.functions ++ (code_in f n ds B.names_arguments (ns ∷ names) ∷ fs) in
             let same : whole own (length g.functions) nested ≡ g.functions ++ coded named_part first names =
@@ -172,13 +175,13 @@ name_walked text around w0 w1 stays passed = record {
 
 -- ---- what a `var` declares
 
-variables_same : {A B : Type 0} (g : Option Expr → A) (k : Option Expr → B) (list : List (List ℕ × Option Expr)) → map (λ v. v.0) (map (λ v. (v.0, g v.1)) list) ≡ map (λ v. v.0) (map (λ v. (v.0, k v.1)) list)
+variables_same : {A B : Type 0} (g : Option Expr → A) (k : Option Expr → B) (list : List (List ℕ × Option Expr)) → map (λ (v : List ℕ × A). v.0) (map (λ v. (v.0, g v.1)) list) ≡ map (λ (v : List ℕ × B). v.0) (map (λ v. (v.0, k v.1)) list)
 variables_same g k [] = refl
 variables_same g k (v ∷ vs) = ap (λ ns. v.0 ∷ ns) (variables_same g k vs)
 
 pub variables_walked : (list : List (List ℕ × Option Expr)) (around : List ℕ) (w0 w1 : Walk) → Walked (declared_in list) (declared_uses list) around w0 w1 → Walked (variables list) (variables_uses list) around w0 w1
 variables_walked list around w0 w1 t =
-    let ns = map (λ v. v.0) (map (λ (v : List ℕ × Option Expr). (v.0, option_map uses.expression v.1)) list) in
+    let ns = map (λ (v : List ℕ × Option Of_part). v.0) (map (λ (v : List ℕ × Option Expr). (v.0, option_map uses.expression v.1)) list) in
     record {
       alike = record {
         count = t.alike.count;
@@ -372,3 +375,20 @@ caught_walked name list around further w0 w1 w2 w3 w4 declared stays1 passes sta
           retold (record w4 { declared = declared }) (f.functions ++ coded B first (own ∷ names)) (f.functions ++ coded whole first names) f.declared (f.declared ++ []) (f.takes_arguments || B.names_arguments) (f.takes_arguments || B.names_arguments) f.scopes f.places
           (ap (λ fs. f.functions ++ fs) (sym (map_map (λ (p : Placed). (p names).code) (λ (p : Placed) names. p (own ∷ names)) (B.functions first)))) (sym (append-nil f.declared)) refl back;
     }
+
+-- ---- a place for the code of a function
+
+pub none_in : (fs : List FunctionCode) → operations_in (fs ++ unwritten ∷ []) ≡ operations_in fs
+none_in [] = refl
+none_in (f ∷ fs) = ap (λ n. length f.ops + n) (none_in fs)
+
+pub none_crowded : (fs : List FunctionCode) → any_crowded (fs ++ unwritten ∷ []) ≡ any_crowded fs
+none_crowded [] = refl
+none_crowded (f ∷ fs) = ap (λ b. is_crowded f.slots || b) (none_crowded fs)
+
+-- a function has as many operations as its size says
+pub code_long : (f : FunctionTree) (first : ℕ) (ds : List Declared) (takes : Bool) (around : Around)
+    → length (code_in f first ds takes around).ops ≡ function_size ds takes ((in_turn (out-FunctionTree f).body).means (first + 1))
+code_long f first ds takes around =
+    let known = (sizes_are_true.functions (out-FunctionTree f).body (first + 1) ds takes).long (at_start around) [] in
+    omega (arith, known)

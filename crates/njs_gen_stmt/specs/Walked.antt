@@ -1,5 +1,5 @@
 -- What the walk over a tree makes of the functions in it.
-use Rattle.std.specs.Prelude.{◌≡◌, ℕ, ◌+◌, ◌<◌, ◌>◌, List, [], ◌∷◌, ◌++◌, map, length, Bool, true, false, ◌||◌, Option, Some, None}
+use Rattle.std.specs.Prelude.{◌≡◌, ℕ, ◌+◌, ◌<◌, nat_lt, List, [], ◌∷◌, ◌++◌, map, length, Bool, true, false, ◌||◌, Option, Some, None}
 use Rattle.std.specs.List.{list_any}
 use Rattle.std.specs.Option.{option_map}
 use Rattle.njs_tree.specs.declared.tree.Expr.{Expr}
@@ -25,7 +25,7 @@ use Rattle.njs_gen_stmt.specs.Statements.{in_turn}
 -- a function has more names in its scope than slots may be
 abbrev pub is_crowded : List ℕ → Bool
 is_crowded [] = false
-is_crowded (count ∷ around) = count > 65535
+is_crowded (count ∷ around) = nat_lt 65535 count
 
 abbrev pub any_crowded : List FunctionCode → Bool
 any_crowded fs = list_any (λ f. is_crowded f.slots) fs

@@ -3,14 +3,16 @@
 
 mod address;
 mod function;
+mod generate;
 mod here;
 mod labels;
 mod parts;
 pub mod size;
 mod statement;
 mod switch;
-mod walk;
 #[cfg(test)]
 mod tests;
+mod walk;
 
 pub use function::{Declaration, Known, function_ops, module_ops};
+pub use generate::{GenFault, generate};

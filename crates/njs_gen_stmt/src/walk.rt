@@ -119,7 +119,9 @@ fn with_scope(w: &mut Walk<'_>, count: usize, around: &[u32]) -> List<u32>
 fn slots(alloc: Global, count: usize, around: &[u32]) -> Result<List<u32>, NoMemory>
     ensures { IfOk result (λ slots. slots ≡ count ∷ around.now) }
 {
-    let Ok(own) = u32::try_from(count) else { return Err(NoMemory) };
+    let Ok(own) = u32::try_from(count) else {
+        return Err(NoMemory)
+    };
     let mut slots = Vec::from_slice(alloc, around)?;
     slots.insert(0, own)?;
     Ok(List::from_vec(slots))
@@ -131,6 +133,22 @@ fn without_declared(w: &mut Walk<'_>) -> List<Declaration>
     ensures taken { (f : Found) → Reached w.old f → Reached w.new (record f { declared = [] }) × (IsUnbroken w.old.fault → told_all result ≡ f.declared) }
 {
     mem::replace(&mut w.declared, List::new(w.alloc))
+}
+
+// A place for the code of a function that is not written yet.
+fn reserve(w: &mut Walk<'_>)
+    ensures stays { IsUnbroken w.new.fault → IsUnbroken w.old.fault }
+    ensures reserved { (f : Found) → Reached w.old f → Reached w.new (record f { functions = f.functions ++ unwritten ∷ [] }) }
+{
+    let code = FunctionCode {
+        params: 0,
+        builds: true,
+        slots: List::new(w.alloc),
+        ops: List::new(w.alloc),
+    };
+    if w.functions.push(code).is_err() && w.fault.is_none() {
+        w.fault = Some(Fault::NoMemory);
+    }
 }
 
 // A function begins, whose number is that of the functions in front of it.
@@ -146,15 +164,7 @@ fn begin_function<'a>(w: &mut Walk<'a>, around: &[u32]) -> Begun<'a>
     let names_arguments = w.names_arguments;
     w.names_arguments = false;
     let declared = without_declared(w);
-    let code = FunctionCode {
-        params: 0,
-        builds: true,
-        slots: List::new(w.alloc),
-        ops: List::new(w.alloc),
-    };
-    if w.functions.push(code).is_err() {
-        refuse(w);
-    }
+    reserve(w);
     Begun {
         names,
         slots,
@@ -175,8 +185,12 @@ fn function_code(
 ) -> Result<FunctionCode, Fault>
     ensures { (around : Around) (first start : ℕ) → let body = (out-FunctionTree f.now).body in IsIn known.entry.names.now around → slots ≡ slots_of around → known.entry.places.now ≡ ((in_turn_uses body).means start).places around → functions ≡ first + 1 + (in_turn body).size → MatchResult result (λ code. code ≡ code_in f.now first (told_all known.entry.declared.now) known.entry.takes_arguments around) (λ fault. Refused fault (length (code_in f.now first (told_all known.entry.declared.now) known.entry.takes_arguments around).ops)) }
 {
-    let Ok(params) = u32::try_from(f.params.len()) else { return Err(Fault::NoMemory) };
-    let Ok(behind) = u32::try_from(functions) else { return Err(Fault::NoMemory) };
+    let Ok(params) = u32::try_from(f.params.len()) else {
+        return Err(Fault::NoMemory)
+    };
+    let Ok(behind) = u32::try_from(functions) else {
+        return Err(Fault::NoMemory)
+    };
     match function_ops(alloc, f, known, behind) {
         Err(fault) => Err(fault),
         Ok(ops) => Ok(FunctionCode {
@@ -264,8 +278,12 @@ fn declare(w: &mut Walk<'_>, f: &FunctionTree)
 fn declaration(alloc: Global, f: &FunctionTree, number: usize) -> Result<Declaration, NoMemory>
     ensures { let tree = out-FunctionTree f.now in IfOk result (λ d. told d ≡ declared_as (record { number = number; name = tree.name; params = length tree.params })) }
 {
-    let Ok(number) = u32::try_from(number) else { return Err(NoMemory) };
-    let Ok(params) = u32::try_from(f.params.len()) else { return Err(NoMemory) };
+    let Ok(number) = u32::try_from(number) else {
+        return Err(NoMemory)
+    };
+    let Ok(params) = u32::try_from(f.params.len()) else {
+        return Err(NoMemory)
+    };
     let name = match &f.name {
         None => Text::fixed(""),
         Some(name) => name.copy(alloc)?,
@@ -323,8 +341,8 @@ pub fn in_expression(w: &mut Walk<'_>, e: &Expr, around: &[u32])
         ExprNode::Object(list) => in_fields(w, list, around),
         ExprNode::Function(f) => in_function_expression(w, f, around),
         ExprNode::Name(name) => in_name(w, name),
-        ExprNode::Num(_) | ExprNode::Str(_) | ExprNode::This | ExprNode::Null | ExprNode::Bool(_) => {
-        }
+        ExprNode::Num(_) | ExprNode::Str(_) | ExprNode::This | ExprNode::Null | ExprNode::Bool(_) =>
+            {}
     }
 }
 

@@ -31,6 +31,8 @@ use Rattle.njs_gen_stmt.specs.Walked.{Walked, variables, variables_uses, declara
 use Rattle.njs_gen_stmt.proofs.Walks.{walked_leaf, walked_one, walked_two, walked_three, walked_four, walked_some, as_walked, completes_more, completed}
 use Rattle.njs_gen_stmt.proofs.FunctionWalks.{name_walked, variables_walked, undeclared_walked, declared_walked, function_walked, declaration_walked, unnamed_walked, named_walked, caught_walked}
 use Rattle.njs_gen_stmt.proofs.Jumps.{branch_of, coded_branch, used_branch}
+use Rattle.njs_gen_expr.proofs.Nodes.{member_is}
+use Rattle.njs_gen_stmt.proofs.Nodes.{for_used}
 use Rattle.njs_gen_stmt.proofs.walk.+walk.Goals as goal
 
 pub in_expression-returns-in-Comma : goal.in_expression-returns-in-Comma
@@ -100,7 +102,7 @@ pub in_expression-returns-in-Member : goal.in_expression-returns-in-Member
 unfolding expression statement code.function code.branch code.first code.head uses.expression uses.statement uses.function uses.branch uses.first uses.head
 in_expression-returns-in-Member t c =
     let i = c.in-Member in
-    let coded : expression c.args.e.now ≡ one (expression i.a) (λ e. emit.member e i.field-1) = search (rules, the_lemmas) in
+    let coded : expression c.args.e.now ≡ one (expression i.a) (λ e. emit.member e i.field-1) = member_is c.args.e.now i.a i.field-1 i.is in
     let named : uses.expression c.args.e.now ≡ uses.expression i.a = search (rules, the_lemmas) in
     as_walked (expression c.args.e.now) (one (expression i.a) (λ e. emit.member e i.field-1)) (uses.expression c.args.e.now) (uses.expression i.a) c.args.around.now c.args.w.now c.in_expression-in-Member.new.w coded named
     (walked_one (expression i.a) (uses.expression i.a) (λ e. emit.member e i.field-1) c.args.around.now c.args.w.now c.in_expression-in-Member.new.w (subst (λ (x : Expr). Walked (expression x) (uses.expression x) c.args.around.now c.args.w.now c.in_expression-in-Member.new.w) c.get-in-Member.ensures c.in_expression-in-Member.ensures))
@@ -167,51 +169,6 @@ in_expression-returns-in-Name t c =
     let named : uses.expression c.args.e.now ≡ uses.name_part i.name = search (rules, the_lemmas) in
     as_walked (expression c.args.e.now) (compiled.name_part i.name) (uses.expression c.args.e.now) (uses.name_part i.name) c.args.around.now c.args.w.now c.in_name.new.w coded named
     (c.in_name.ensures c.args.around.now)
-
-pub in_expression-returns-in-Num : goal.in_expression-returns-in-Num
-unfolding expression statement code.function code.branch code.first code.head uses.expression uses.statement uses.function uses.branch uses.first uses.head
-in_expression-returns-in-Num t c =
-    let i = c.in-Num in
-    let coded : expression c.args.e.now ≡ leaf (emit.constant (kind.Num i.field-0)) = search (rules, the_lemmas) in
-    let named : uses.expression c.args.e.now ≡ leaf uses.none = search (rules, the_lemmas) in
-    as_walked (expression c.args.e.now) (leaf (emit.constant (kind.Num i.field-0))) (uses.expression c.args.e.now) (leaf uses.none) c.args.around.now c.args.w.now c.args.w.now coded named
-    (walked_leaf (emit.constant (kind.Num i.field-0)) c.args.around.now c.args.w.now)
-
-pub in_expression-returns-in-Str : goal.in_expression-returns-in-Str
-unfolding expression statement code.function code.branch code.first code.head uses.expression uses.statement uses.function uses.branch uses.first uses.head
-in_expression-returns-in-Str t c =
-    let i = c.in-Str in
-    let coded : expression c.args.e.now ≡ leaf (emit.constant (kind.Str i.field-0)) = search (rules, the_lemmas) in
-    let named : uses.expression c.args.e.now ≡ leaf uses.none = search (rules, the_lemmas) in
-    as_walked (expression c.args.e.now) (leaf (emit.constant (kind.Str i.field-0))) (uses.expression c.args.e.now) (leaf uses.none) c.args.around.now c.args.w.now c.args.w.now coded named
-    (walked_leaf (emit.constant (kind.Str i.field-0)) c.args.around.now c.args.w.now)
-
-pub in_expression-returns-in-This : goal.in_expression-returns-in-This
-unfolding expression statement code.function code.branch code.first code.head uses.expression uses.statement uses.function uses.branch uses.first uses.head
-in_expression-returns-in-This t c =
-    let i = c.in-This in
-    let coded : expression c.args.e.now ≡ leaf (emit.constant (kind.This)) = search (rules, the_lemmas) in
-    let named : uses.expression c.args.e.now ≡ leaf uses.none = search (rules, the_lemmas) in
-    as_walked (expression c.args.e.now) (leaf (emit.constant (kind.This))) (uses.expression c.args.e.now) (leaf uses.none) c.args.around.now c.args.w.now c.args.w.now coded named
-    (walked_leaf (emit.constant (kind.This)) c.args.around.now c.args.w.now)
-
-pub in_expression-returns-in-Null : goal.in_expression-returns-in-Null
-unfolding expression statement code.function code.branch code.first code.head uses.expression uses.statement uses.function uses.branch uses.first uses.head
-in_expression-returns-in-Null t c =
-    let i = c.in-Null in
-    let coded : expression c.args.e.now ≡ leaf (emit.constant (kind.Null)) = search (rules, the_lemmas) in
-    let named : uses.expression c.args.e.now ≡ leaf uses.none = search (rules, the_lemmas) in
-    as_walked (expression c.args.e.now) (leaf (emit.constant (kind.Null))) (uses.expression c.args.e.now) (leaf uses.none) c.args.around.now c.args.w.now c.args.w.now coded named
-    (walked_leaf (emit.constant (kind.Null)) c.args.around.now c.args.w.now)
-
-pub in_expression-returns-in-Bool : goal.in_expression-returns-in-Bool
-unfolding expression statement code.function code.branch code.first code.head uses.expression uses.statement uses.function uses.branch uses.first uses.head
-in_expression-returns-in-Bool t c =
-    let i = c.in-Bool in
-    let coded : expression c.args.e.now ≡ leaf (emit.constant (kind.Bool i.field-0)) = search (rules, the_lemmas) in
-    let named : uses.expression c.args.e.now ≡ leaf uses.none = search (rules, the_lemmas) in
-    as_walked (expression c.args.e.now) (leaf (emit.constant (kind.Bool i.field-0))) (uses.expression c.args.e.now) (leaf uses.none) c.args.around.now c.args.w.now c.args.w.now coded named
-    (walked_leaf (emit.constant (kind.Bool i.field-0)) c.args.around.now c.args.w.now)
 
 pub in_statement-returns-in-Block : goal.in_statement-returns-in-Block
 unfolding expression statement code.function code.branch code.first code.head uses.expression uses.statement uses.function uses.branch uses.first uses.head
@@ -281,7 +238,7 @@ unfolding expression statement code.function code.branch code.first code.head us
 in_statement-returns-in-For t c =
     let i = c.in-For in
     let coded : statement c.args.s.now ≡ four (first i.first) (optional i.test) (optional i.update) (statement i.body) step.for_loop = search (rules, the_lemmas) in
-    let named : uses.statement c.args.s.now ≡ four (first_uses i.first) (optional_uses i.test) (optional_uses i.update) (uses.statement i.body) (λ a b c d. uses.both a (uses.both b (uses.both c d))) = search (rules, the_lemmas) in
+    let named : uses.statement c.args.s.now ≡ four (first_uses i.first) (optional_uses i.test) (optional_uses i.update) (uses.statement i.body) (λ a b c d. uses.both a (uses.both b (uses.both c d))) = for_used c.args.s.now i.first i.test i.update i.body i.is in
     as_walked (statement c.args.s.now) (four (first i.first) (optional i.test) (optional i.update) (statement i.body) step.for_loop) (uses.statement c.args.s.now) (four (first_uses i.first) (optional_uses i.test) (optional_uses i.update) (uses.statement i.body) (λ a b c d. uses.both a (uses.both b (uses.both c d)))) c.args.around.now c.args.w.now c.in_statement-in-For.new.w coded named
     (walked_four (first i.first) (optional i.test) (optional i.update) (statement i.body) (first_uses i.first) (optional_uses i.test) (optional_uses i.update) (uses.statement i.body) step.for_loop c.args.around.now c.args.w.now c.in_first.new.w c.in_optional.new.w c.in_optional-in-For.new.w c.in_statement-in-For.new.w c.in_first.ensures c.in_optional.ensures c.in_optional-in-For.ensures (subst (λ (x : Stmt). Walked (statement x) (uses.statement x) c.args.around.now c.in_optional-in-For.new.w c.in_statement-in-For.new.w) c.get-in-For.ensures c.in_statement-in-For.ensures))
 
@@ -338,33 +295,6 @@ in_statement-returns-in-FunctionDecl t c =
     let named : uses.statement c.args.s.now ≡ declaration_uses (uses.function i.f) = search (rules, the_lemmas) in
     as_walked (statement c.args.s.now) (declaration_part (code.function i.f)) (uses.statement c.args.s.now) (declaration_uses (uses.function i.f)) c.args.around.now c.args.w.now c.in_declaration.new.w coded named
     (c.in_declaration.ensures)
-
-pub in_statement-returns-in-Continue : goal.in_statement-returns-in-Continue
-unfolding expression statement code.function code.branch code.first code.head uses.expression uses.statement uses.function uses.branch uses.first uses.head
-in_statement-returns-in-Continue t c =
-    let i = c.in-Continue in
-    let coded : statement c.args.s.now ≡ leaf (step.ends_with (kind.Continue i.field-0)) = search (rules, the_lemmas) in
-    let named : uses.statement c.args.s.now ≡ leaf uses.none = search (rules, the_lemmas) in
-    as_walked (statement c.args.s.now) (leaf (step.ends_with (kind.Continue i.field-0))) (uses.statement c.args.s.now) (leaf uses.none) c.args.around.now c.args.w.now c.args.w.now coded named
-    (walked_leaf (step.ends_with (kind.Continue i.field-0)) c.args.around.now c.args.w.now)
-
-pub in_statement-returns-in-Break : goal.in_statement-returns-in-Break
-unfolding expression statement code.function code.branch code.first code.head uses.expression uses.statement uses.function uses.branch uses.first uses.head
-in_statement-returns-in-Break t c =
-    let i = c.in-Break in
-    let coded : statement c.args.s.now ≡ leaf (step.ends_with (kind.Break i.field-0)) = search (rules, the_lemmas) in
-    let named : uses.statement c.args.s.now ≡ leaf uses.none = search (rules, the_lemmas) in
-    as_walked (statement c.args.s.now) (leaf (step.ends_with (kind.Break i.field-0))) (uses.statement c.args.s.now) (leaf uses.none) c.args.around.now c.args.w.now c.args.w.now coded named
-    (walked_leaf (step.ends_with (kind.Break i.field-0)) c.args.around.now c.args.w.now)
-
-pub in_statement-returns-in-Empty : goal.in_statement-returns-in-Empty
-unfolding expression statement code.function code.branch code.first code.head uses.expression uses.statement uses.function uses.branch uses.first uses.head
-in_statement-returns-in-Empty t c =
-    let i = c.in-Empty in
-    let coded : statement c.args.s.now ≡ leaf (step.empty) = search (rules, the_lemmas) in
-    let named : uses.statement c.args.s.now ≡ leaf uses.none = search (rules, the_lemmas) in
-    as_walked (statement c.args.s.now) (leaf (step.empty)) (uses.statement c.args.s.now) (leaf uses.none) c.args.around.now c.args.w.now c.args.w.now coded named
-    (walked_leaf (step.empty) c.args.around.now c.args.w.now)
 
 pub in_expressions-returns : goal.in_expressions-returns
 in_expressions-returns t c =
@@ -548,6 +478,6 @@ in_caught-returns-in-None t c =
 pub in_caught-returns-in-Some : goal.in_caught-returns-in-Some
 in_caught-returns-in-Some t c =
     subst (λ (o : Option (List ℕ × List Stmt)). Walked (caught o) (caught_uses o) c.args.around.now c.args.w.now (record c.in_statements.new.w { declared = c.without_declared-declared.result })) (sym c.in-Some.is)
-    (caught_walked c.in-Some.field-0 c.in-Some.handler c.args.around.now c.with_scope-further.result c.args.w.now c.next_scope.new.w c.with_scope-further.new.w c.without_declared-declared.new.w c.in_statements.new.w c.without_declared-declared.result
+    (caught_walked c.in-Some.field-0-0 c.in-Some.handler c.args.around.now c.with_scope-further.result c.args.w.now c.next_scope.new.w c.with_scope-further.new.w c.without_declared-declared.new.w c.in_statements.new.w c.without_declared-declared.result
     c.next_scope.ensures.stays (λ f ns h. (c.next_scope.ensures.passed f ns h).0) c.with_scope-further.ensures.stays c.with_scope-further.ensures.holds c.with_scope-further.ensures.given c.without_declared-declared.ensures.stays c.without_declared-declared.ensures.taken
     (subst (λ ks. Walked (in_turn c.in-Some.handler) (in_turn_uses c.in-Some.handler) ks c.without_declared-declared.new.w c.in_statements.new.w) c.as_slice.ensures c.in_statements.ensures))
