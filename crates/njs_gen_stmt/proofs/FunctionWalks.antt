@@ -208,18 +208,27 @@ undeclared_walked x none xs around w end t =
     } in
     subst (λ o. Walked (declared_in ((x.0, o) ∷ xs)) (declared_uses ((x.0, o) ∷ xs)) around w end) (sym none) told
 
-pub declared_walked : (x : List ℕ × Option Expr) (e : Expr) → x.1 ≡ Some e → (xs : List (List ℕ × Option Expr)) (around : List ℕ) (w w1 w2 end : Walk) → (IsUnbroken w1.fault → IsUnbroken w.fault)
+pub variable_walked : (name : List ℕ) (e : Expr) (around : List ℕ) (w w1 w2 : Walk) → (IsUnbroken w1.fault → IsUnbroken w.fault)
     → ((f : Found) (place : Place) → Reached w (record f { places = place ∷ f.places }) → Reached w1 f) → Walked (code.expression e) (uses.expression e) around w1 w2
-    → Walked (declared_in xs) (declared_uses xs) around w2 end → Walked (declared_in (x ∷ xs)) (declared_uses (x ∷ xs)) around w end
-declared_walked x e some xs around w w1 w2 end stays passed t later =
+    → Walked (code.expression e) (one (uses.expression e) (λ u. uses.both (uses.use_of name) u)) around w w2
+variable_walked name e around w w1 w2 stays passed t = record {
+  alike = record { count = t.alike.count; declares = t.alike.declares; vars = t.alike.vars; mentions = t.alike.mentions };
+  stays = λ g. stays (t.stays g);
+  reaches = λ names first start f inside known count h.
+      let u = (uses.expression e).means start in
+      t.reaches names first start f inside (λ g. known (stays g)) count (passed (record f { scopes = u.scopes names ++ f.scopes; places = u.places names ++ f.places }) (place_in name names) h);
+}
+
+pub declared_walked : (x : List ℕ × Option Expr) (e : Expr) → x.1 ≡ Some e → (xs : List (List ℕ × Option Expr)) (around : List ℕ) (w w2 end : Walk)
+    → Walked (code.expression e) (one (uses.expression e) (λ u. uses.both (uses.use_of x.0) u)) around w w2 → Walked (declared_in xs) (declared_uses xs) around w2 end
+    → Walked (declared_in (x ∷ xs)) (declared_uses (x ∷ xs)) around w end
+declared_walked x e some xs around w w2 end t later =
     let E = code.expression e in
     let U = one (uses.expression e) (λ u. uses.both (uses.use_of x.0) u) in
     let named : Walked (held (Some E)) U around w w2 = record {
       alike = record { count = t.alike.count; declares = t.alike.declares; vars = t.alike.vars; mentions = t.alike.mentions };
-      stays = λ g. stays (t.stays g);
-      reaches = λ names first start f inside known count h.
-          let u = (uses.expression e).means start in
-          t.reaches names first start f inside (λ g. known (stays g)) count (passed (record f { scopes = u.scopes names ++ f.scopes; places = u.places names ++ f.places }) (place_in x.0 names) h);
+      stays = t.stays;
+      reaches = t.reaches;
     } in
     let told : Walked (declared_in ((x.0, Some e) ∷ xs)) (declared_uses ((x.0, Some e) ∷ xs)) around w end =
     walked_two (held (Some E)) (declared_in xs) U (declared_uses xs) (λ v vs. (x.0, v) ∷ vs) around w w2 end named later in

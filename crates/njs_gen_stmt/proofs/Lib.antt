@@ -12,3 +12,4 @@ pub mod Nodes
 pub mod Walks
 pub mod FunctionWalks
 pub mod Puts
+pub mod FunctionEnds

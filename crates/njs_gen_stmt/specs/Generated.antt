@@ -8,8 +8,8 @@ use Rattle.njs_simul.specs.EmissionOfStatements.{slots_of, at_start}
 use Rattle.njs_simul.specs.Compiled.{items_part, body_of}
 use Rattle.njs_simul.specs.Counts.{operations_of, max_operations}
 use Rattle.njs_scope.specs.Planned.{Planned, planned}
-use Rattle.njs_gen_stmt.specs.declared.generate.GenFault.{GenFault}
-use Rattle.njs_gen_stmt.specs.declared.generate.GenFault.TheVariants.{TooManySlots, TooLong, NoMemory}
+use Rattle.njs_gen_stmt.specs.declared.script.GenFault.{GenFault}
+use Rattle.njs_gen_stmt.specs.declared.script.GenFault.TheVariants.{TooManySlots, TooLong, NoMemory}
 use Rattle.njs_gen_stmt.specs.Walked.{coded, is_crowded, any_crowded}
 
 -- a plan is that of a script, by some names of the outermost scope

@@ -3,7 +3,7 @@
 
 mod address;
 mod function;
-mod generate;
+mod script;
 mod here;
 mod labels;
 mod parts;
@@ -15,4 +15,4 @@ mod tests;
 mod walk;
 
 pub use function::{Declaration, Known, function_ops, module_ops};
-pub use generate::{GenFault, generate};
+pub use script::{GenFault, generate};

@@ -14,7 +14,7 @@ ghost use Rattle.njs_simul.specs.Compiled.{function_expression, name_part};
 ghost use Rattle.njs_scope.specs.Uses as uses;
 ghost use Rattle.njs_gen_expr.specs.Trees as code;
 ghost use Rattle.njs_gen_stmt.specs.Functions.{IsIn, Refused, told, told_all};
-ghost use Rattle.njs_gen_stmt.specs.Statements.{in_turn, in_turn_uses, optional, optional_uses, first, first_uses, otherwise, otherwise_uses, cases, cases_uses, caught, caught_uses, last, last_uses};
+ghost use Rattle.njs_gen_stmt.specs.Statements.{in_turn, in_turn_uses, optional, optional_uses, first, first_uses, otherwise, otherwise_uses, cases, cases_uses, caught, caught_uses};
 ghost use Rattle.njs_gen_stmt.specs.Walked.{Walked, Reached, AreMade, Same, Found, found, IsUnbroken, IsInside, Remembers, unwritten, code_in, variables, variables_uses, declaration_part, declaration_uses};
 
 use crate::function::{Declaration, Known, arguments, function_ops};
@@ -370,7 +370,9 @@ fn in_elements(w: &mut Walk<'_>, list: &Items<Option<Expr>>, around: &[u32])
 {
     let list = list.as_slice();
     for i in 0..list.len() {
-        in_optional(w, &list[i], around);
+        if let Some(e) = &list[i] {
+            in_expression(w, e, around);
+        }
     }
 }
 
@@ -380,7 +382,8 @@ fn in_fields(w: &mut Walk<'_>, list: &Items<(Text, Expr)>, around: &[u32])
 {
     let list = list.as_slice();
     for i in 0..list.len() {
-        in_expression(w, &list[i].1, around);
+        let field = &list[i];
+        in_expression(w, &field.1, around);
     }
 }
 
@@ -404,10 +407,18 @@ fn in_variables(w: &mut Walk<'_>, list: &Items<(Text, Option<Expr>)>, around: &[
     for i in 0..list.len() {
         let variable = &list[i];
         if let Some(e) = &variable.1 {
-            pass_name(w);
-            in_expression(w, e, around);
+            in_variable(w, e, around);
         }
     }
+}
+
+// The value of a variable, of which its name is used.
+#[cycle(walk)]
+fn in_variable(w: &mut Walk<'_>, e: &Expr, around: &[u32])
+    ensures { (name : List ℕ) → Walked (code.expression e.now) (one (uses.expression e.now) (λ u. uses.both (uses.use_of name) u)) around.now w.old w.new }
+{
+    pass_name(w);
+    in_expression(w, e, around);
 }
 
 // A function as an expression; a name of its own stands in a scope around it (ECMA-262 5.1 §13).
@@ -496,8 +507,19 @@ pub fn in_statement(w: &mut Walk<'_>, s: &Stmt, around: &[u32])
             finally,
         } => {
             in_statements(w, body, around);
-            in_caught(w, caught, around);
-            in_last(w, finally, around);
+            match caught {
+                None => match finally {
+                    None => {}
+                    Some(list) => in_statements(w, list, around),
+                },
+                Some((_, handler)) => {
+                    in_caught(w, handler, around);
+                    match finally {
+                        None => {}
+                        Some(list) => in_statements(w, list, around),
+                    }
+                }
+            }
         }
         StmtNode::Label(_, body) => in_statement(w, body.get(), around),
         StmtNode::FunctionDecl(f) => in_declaration(w, f, around),
@@ -557,29 +579,14 @@ fn in_case(w: &mut Walk<'_>, part: &Case, around: &[u32])
 // The functions of a `catch` stand in a scope with its name (ECMA-262 5.1 §12.14), and those that it declares are none of the
 // function around.
 #[cycle(walk)]
-fn in_caught(w: &mut Walk<'_>, part: &Option<(Text, Items<Stmt>)>, around: &[u32])
-    ensures { Walked (caught part.now) (caught_uses part.now) around.now w.old w.new }
+fn in_caught(w: &mut Walk<'_>, handler: &Items<Stmt>, around: &[u32])
+    ensures { (name : List ℕ) → Walked (caught (Some (name, handler.now))) (caught_uses (Some (name, handler.now))) around.now w.old w.new }
 {
-    match part {
-        None => {}
-        Some((_, handler)) => {
-            next_scope(w);
-            let further = with_scope(w, 1, around);
-            let declared = without_declared(w);
-            in_statements(w, handler, further.as_slice());
-            w.declared = declared;
-        }
-    }
-}
-
-#[cycle(walk)]
-fn in_last(w: &mut Walk<'_>, part: &Option<Items<Stmt>>, around: &[u32])
-    ensures { Walked (last part.now) (last_uses part.now) around.now w.old w.new }
-{
-    match part {
-        None => {}
-        Some(list) => in_statements(w, list, around),
-    }
+    next_scope(w);
+    let further = with_scope(w, 1, around);
+    let declared = without_declared(w);
+    in_statements(w, handler, further.as_slice());
+    w.declared = declared;
 }
 
 // The declaration of a function in another.

@@ -29,7 +29,7 @@ use Rattle.njs_gen_stmt.specs.Statements.{DeeperBy, WrotePart, WroteTest, WroteL
 use Rattle.njs_tree.specs.declared.tree.FunctionTree.{FunctionTree, out-FunctionTree}
 use Rattle.njs_gen_stmt.specs.Walked.{Walked, variables, variables_uses, declaration_part, declaration_uses}
 use Rattle.njs_gen_stmt.proofs.Walks.{walked_leaf, walked_one, walked_two, walked_three, walked_four, walked_some, as_walked, completes_more, completed}
-use Rattle.njs_gen_stmt.proofs.FunctionWalks.{name_walked, variables_walked, undeclared_walked, declared_walked, function_walked, declaration_walked, unnamed_walked, named_walked, caught_walked}
+use Rattle.njs_gen_stmt.proofs.FunctionWalks.{name_walked, variables_walked, undeclared_walked, variable_walked, declared_walked, function_walked, declaration_walked, unnamed_walked, named_walked, caught_walked}
 use Rattle.njs_gen_stmt.proofs.Jumps.{branch_of, coded_branch, used_branch}
 use Rattle.njs_gen_expr.proofs.Nodes.{member_is}
 use Rattle.njs_gen_stmt.proofs.Nodes.{for_used}
@@ -269,15 +269,6 @@ in_statement-returns-in-Switch t c =
     as_walked (statement c.args.s.now) (two (expression i.value) (cases i.cases) step.switch) (uses.statement c.args.s.now) (two (uses.expression i.value) (cases_uses i.cases) uses.both) c.args.around.now c.args.w.now c.in_cases.new.w coded named
     (walked_two (expression i.value) (cases i.cases) (uses.expression i.value) (cases_uses i.cases) step.switch c.args.around.now c.args.w.now c.in_expression-in-Switch.new.w c.in_cases.new.w c.in_expression-in-Switch.ensures c.in_cases.ensures)
 
-pub in_statement-returns-in-Try : goal.in_statement-returns-in-Try
-unfolding expression statement code.function code.branch code.first code.head uses.expression uses.statement uses.function uses.branch uses.first uses.head
-in_statement-returns-in-Try t c =
-    let i = c.in-Try in
-    let coded : statement c.args.s.now ≡ three (in_turn i.body) (caught i.caught) (last i.finally) step.try_catch = search (rules, the_lemmas) in
-    let named : uses.statement c.args.s.now ≡ three (in_turn_uses i.body) (caught_uses i.caught) (last_uses i.finally) (λ a b c. uses.both a (uses.both b c)) = search (rules, the_lemmas) in
-    as_walked (statement c.args.s.now) (three (in_turn i.body) (caught i.caught) (last i.finally) step.try_catch) (uses.statement c.args.s.now) (three (in_turn_uses i.body) (caught_uses i.caught) (last_uses i.finally) (λ a b c. uses.both a (uses.both b c))) c.args.around.now c.args.w.now c.in_last.new.w coded named
-    (walked_three (in_turn i.body) (caught i.caught) (last i.finally) (in_turn_uses i.body) (caught_uses i.caught) (last_uses i.finally) step.try_catch c.args.around.now c.args.w.now c.in_statements-in-Try.new.w c.in_caught.new.w c.in_last.new.w c.in_statements-in-Try.ensures c.in_caught.ensures c.in_last.ensures)
-
 pub in_statement-returns-in-Label : goal.in_statement-returns-in-Label
 unfolding expression statement code.function code.branch code.first code.head uses.expression uses.statement uses.function uses.branch uses.first uses.head
 in_statement-returns-in-Label t c =
@@ -343,11 +334,6 @@ in_elements-returns t c =
 pub in_elements-loop-i-init : goal.in_elements-loop-i-init
 in_elements-loop-i-init t c = λ end h. h
 
-pub in_elements-loop-i-preserved : goal.in_elements-loop-i-preserved
-in_elements-loop-i-preserved t c =
-    completes_more (λ (l : List (Option Expr)). each_held (map (option_map expression) l)) (λ (l : List (Option Expr)). one (each_held (map (option_map uses.expression) l)) uses.all_held) c.args.around.now (c.loop-i.i + 1) c.loop-i.i c.as_slice-list.result.now c.index-list-i.result c.args.w.now c.loop-i.w c.in_optional.new.w (omega arith) (omega arith) c.index-list-i.is c.loop-i.invariant
-    (λ xs end h. walked_two (optional c.index-list-i.result) (each_held (map (option_map expression) xs)) (optional_uses c.index-list-i.result) (one (each_held (map (option_map uses.expression) xs)) uses.all_held) (λ x xs. x ∷ xs) c.args.around.now c.loop-i.w c.in_optional.new.w end c.in_optional.ensures h)
-
 pub in_fields-returns : goal.in_fields-returns
 in_fields-returns t c =
     completed (λ (l : List (List ℕ × Expr)). each_named (map (λ p. (p.0, expression p.1)) l)) (λ (l : List (List ℕ × Expr)). one (each_named (map (λ p. (p.0, uses.expression p.1)) l)) uses.all_named) c.args.around.now c.loop-i.i c.as_slice-list.result.now c.args.list.now c.args.w.now c.loop-i.w (omega arith) c.as_slice-list.ensures c.loop-i.invariant
@@ -370,16 +356,6 @@ in_variables-returns t c =
 pub in_variables-loop-i-init : goal.in_variables-loop-i-init
 in_variables-loop-i-init t c = λ end h. h
 
-pub in_variables-loop-i-preserved : goal.in_variables-loop-i-preserved
-in_variables-loop-i-preserved t c =
-    completes_more (λ (l : List (List ℕ × Option Expr)). declared_in l) (λ (l : List (List ℕ × Option Expr)). declared_uses l) c.args.around.now (c.loop-i.i + 1) c.loop-i.i c.as_slice-list.result.now c.index-list-i.result c.args.w.now c.loop-i.w c.loop-i.w (omega arith) (omega arith) c.index-list-i.is c.loop-i.invariant
-    (λ xs end h. undeclared_walked c.index-list-i.result c.in_default.is xs c.args.around.now c.loop-i.w end h)
-
-pub in_variables-loop-i-preserved-in-Some : goal.in_variables-loop-i-preserved-in-Some
-in_variables-loop-i-preserved-in-Some t c =
-    completes_more (λ (l : List (List ℕ × Option Expr)). declared_in l) (λ (l : List (List ℕ × Option Expr)). declared_uses l) c.args.around.now (c.loop-i.i + 1) c.loop-i.i c.as_slice-list.result.now c.index-list-i.result c.args.w.now c.loop-i.w c.in_expression.new.w (omega arith) (omega arith) c.index-list-i.is c.loop-i.invariant
-    (λ xs end h. declared_walked c.index-list-i.result c.in-Some.e c.in-Some.is xs c.args.around.now c.loop-i.w c.pass_name.new.w c.in_expression.new.w end c.pass_name.ensures.stays c.pass_name.ensures.passed c.in_expression.ensures h)
-
 pub in_optional-returns-in-None : goal.in_optional-returns-in-None
 in_optional-returns-in-None t c =
     subst (λ (o : Option (Expr)). Walked (optional o) (optional_uses o) c.args.around.now c.args.w.now c.args.w.now) (sym c.in-None.is) (walked_leaf None c.args.around.now c.args.w.now)
@@ -397,15 +373,6 @@ pub in_otherwise-returns-in-Some : goal.in_otherwise-returns-in-Some
 in_otherwise-returns-in-Some t c =
     subst (λ (o : Option (Stmt)). Walked (otherwise o) (otherwise_uses o) c.args.around.now c.args.w.now c.in_statement.new.w) (sym c.in-Some.is)
     (walked_some (statement c.in-Some.s) (uses.statement c.in-Some.s) c.args.around.now c.args.w.now c.in_statement.new.w (subst (λ (x : Stmt). Walked (statement x) (uses.statement x) c.args.around.now c.args.w.now c.in_statement.new.w) c.get.ensures c.in_statement.ensures))
-
-pub in_last-returns-in-None : goal.in_last-returns-in-None
-in_last-returns-in-None t c =
-    subst (λ (o : Option (List Stmt)). Walked (last o) (last_uses o) c.args.around.now c.args.w.now c.args.w.now) (sym c.in-None.is) (walked_leaf None c.args.around.now c.args.w.now)
-
-pub in_last-returns-in-Some : goal.in_last-returns-in-Some
-in_last-returns-in-Some t c =
-    subst (λ (o : Option (List Stmt)). Walked (last o) (last_uses o) c.args.around.now c.args.w.now c.in_statements.new.w) (sym c.in-Some.is)
-    (walked_one (in_turn c.in-Some.list) (in_turn_uses c.in-Some.list) Some c.args.around.now c.args.w.now c.in_statements.new.w c.in_statements.ensures)
 
 pub in_first-returns-in-None : goal.in_first-returns-in-None
 in_first-returns-in-None t c =
@@ -471,13 +438,11 @@ in_function_expression-returns-in-Some t c =
     named_walked c.args.f.now c.in-Some.field-0 c.args.around.now c.args.w.now c.next_scope.new.w c.with_scope-further.new.w c.in_function-in-Some.new.w c.with_scope-further.result c.in-Some.is c.next_scope.ensures.stays (λ f ns h. (c.next_scope.ensures.passed f ns h).0) c.with_scope-further.ensures.stays c.with_scope-further.ensures.holds c.with_scope-further.ensures.given
     (subst (λ ks. Walked (code.function c.args.f.now) (one (uses.function c.args.f.now) uses.declared_function) ks c.with_scope-further.new.w c.in_function-in-Some.new.w) c.as_slice.ensures c.in_function-in-Some.ensures)
 
-pub in_caught-returns-in-None : goal.in_caught-returns-in-None
-in_caught-returns-in-None t c =
-    subst (λ (o : Option (List ℕ × List Stmt)). Walked (caught o) (caught_uses o) c.args.around.now c.args.w.now c.args.w.now) (sym c.in-None.is) (walked_leaf None c.args.around.now c.args.w.now)
+pub in_variable-returns : goal.in_variable-returns
+in_variable-returns t c name = variable_walked name c.args.e.now c.args.around.now c.args.w.now c.pass_name.new.w c.in_expression.new.w c.pass_name.ensures.stays c.pass_name.ensures.passed c.in_expression.ensures
 
-pub in_caught-returns-in-Some : goal.in_caught-returns-in-Some
-in_caught-returns-in-Some t c =
-    subst (λ (o : Option (List ℕ × List Stmt)). Walked (caught o) (caught_uses o) c.args.around.now c.args.w.now (record c.in_statements.new.w { declared = c.without_declared-declared.result })) (sym c.in-Some.is)
-    (caught_walked c.in-Some.field-0-0 c.in-Some.handler c.args.around.now c.with_scope-further.result c.args.w.now c.next_scope.new.w c.with_scope-further.new.w c.without_declared-declared.new.w c.in_statements.new.w c.without_declared-declared.result
+pub in_caught-returns : goal.in_caught-returns
+in_caught-returns t c name =
+    caught_walked name c.args.handler.now c.args.around.now c.with_scope-further.result c.args.w.now c.next_scope.new.w c.with_scope-further.new.w c.without_declared-declared.new.w c.in_statements.new.w c.without_declared-declared.result
     c.next_scope.ensures.stays (λ f ns h. (c.next_scope.ensures.passed f ns h).0) c.with_scope-further.ensures.stays c.with_scope-further.ensures.holds c.with_scope-further.ensures.given c.without_declared-declared.ensures.stays c.without_declared-declared.ensures.taken
-    (subst (λ ks. Walked (in_turn c.in-Some.handler) (in_turn_uses c.in-Some.handler) ks c.without_declared-declared.new.w c.in_statements.new.w) c.as_slice.ensures c.in_statements.ensures))
+    (subst (λ ks. Walked (in_turn c.args.handler.now) (in_turn_uses c.args.handler.now) ks c.without_declared-declared.new.w c.in_statements.new.w) c.as_slice.ensures c.in_statements.ensures)
