@@ -12,8 +12,9 @@ use Rattle.njs_gen_expr.specs.declared.fault.Fault.{Fault}
 use Rattle.njs_gen_expr.specs.declared.fault.Fault.TheVariants.{NoMemory, TooLong}
 use Rattle.njs_gen_stmt.specs.declared.function.Declaration.{Declaration}
 use Rattle.njs_gen_stmt.specs.declared.walk.Walk.{Walk}
-use Rattle.njs_gen_stmt.specs.Functions.{Refused, told_all}
-use Rattle.njs_gen_stmt.specs.Walked.{Found, found, Reached, Made, AreMade, Same, IsUnbroken, unwritten, is_crowded, any_crowded}
+use Rattle.std.specs.Prelude.{Result, MatchResult}
+use Rattle.njs_gen_stmt.specs.Functions.{IsIn, Refused, told_all}
+use Rattle.njs_gen_stmt.specs.Walked.{Found, found, Reached, Made, AreMade, Same, IsInside, IsUnbroken, unwritten, is_crowded, any_crowded, code_in}
 use Rattle.njs_gen_stmt.proofs.FunctionWalks.{none_in, none_crowded}
 use Rattle.njs_gen_stmt.proofs.Puts.{operations_put, crowded_put}
 
@@ -92,3 +93,33 @@ places_used used places count is =
     let long = length-append used places in
     let same : count ≡ length used = omega (arith, is, long) in
     ap (λ n. take n (used ++ places)) same ∙ take-append_seam used places
+
+-- the code of a function, by what is known of what it declares
+pub known_code : (f : FunctionTree) (r : Result FunctionCode Fault) (n : ℕ) (es ds : List Declared) (t u : Bool) (around : Around) → es ≡ ds → t ≡ u
+    → MatchResult r (λ x. x ≡ code_in f n es t around) (λ fault. Refused fault (length (code_in f n es t around).ops))
+    → MatchResult r (λ x. x ≡ code_in f n ds u around) (λ fault. Refused fault (length (code_in f n ds u around).ops))
+known_code f r n es ds t u around a b m =
+    subst (λ x. MatchResult r (λ y. y ≡ code_in f n ds x around) (λ fault. Refused fault (length (code_in f n ds x around).ops))) b
+    (subst (λ x. MatchResult r (λ y. y ≡ code_in f n x t around) (λ fault. Refused fault (length (code_in f n x t around).ops))) a m)
+
+pub is_in : (own names : Bindings) (around : Around) → names ≡ own → IsInside around → IsIn names (own ∷ around)
+is_in own names around same inside = (inside.0, inside.1, ap (λ (l : Around). own ∷ l) inside.2 ∙ ap (λ (n : Bindings). n ∷ (inside.0 ∷ inside.1)) (sym same))
+
+-- ---- what is known where nothing was refused
+
+pub are_unbroken : (fault : Option Fault) (w : Walk) (fs : List FunctionCode) → IsUnbroken fault → AreMade fault w fs → AreMade None w fs
+are_unbroken None w fs g m = m
+are_unbroken (Some fault) w fs g m = absurd g
+
+pub were_made : (fault : Option Fault) (w : Walk) (fs : List FunctionCode) → IsUnbroken fault → AreMade None w fs → AreMade fault w fs
+were_made None w fs g m = m
+were_made (Some fault) w fs g m = absurd g
+
+pub broken : (fault : Option Fault) (f : Fault) → fault ≡ Some f → IsUnbroken fault → ⊥
+broken fault f is g = subst IsUnbroken is g
+
+pub refused_reserved : (w v : Walk) (f : Found) (fs : List FunctionCode) → fs ≡ w.functions → ((g : Found) → Reached (record w { functions = fs }) g → Reached v g) → (IsUnbroken v.fault → ⊥) → Reached w f
+    → Reached v (record f { functions = f.functions ++ unwritten ∷ [] })
+refused_reserved w v f fs same holds ended h =
+    let h1 = holds f (subst (λ x. Reached (record w { functions = x }) f) (sym same) h) in
+    (h1.0, h1.1, h1.2 ∙ sym (none_crowded f.functions), reserved_made v.fault v f v.functions (λ g. absurd (ended g)) h1.3)

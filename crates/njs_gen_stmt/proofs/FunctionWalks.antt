@@ -9,9 +9,10 @@ use Rattle.njs_code.specs.declared.code.FunctionCode.{FunctionCode}
 use Rattle.njs_meaning.specs.declared.place.Place.{Place}
 use Rattle.njs_meaning.specs.Functions.{scope_names, each_once, arguments_name}
 use Rattle.njs_meaning.specs.Meaning.{Made as MadeFunction, declared_as}
-use Rattle.njs_meaning.specs.Parts.{Declared, Part, leaf, one, two, held, with_vars, with_declaration, without_declared, each}
+use Rattle.njs_meaning.specs.Parts.{Declared, Part, leaf, one, two, three, held, with_vars, with_declaration, without_declared, each}
 use Rattle.njs_meaning.specs.Places.{Around, Bindings, assignable, place_in}
 use Rattle.njs_simul.specs.Emission as emit
+use Rattle.njs_simul.specs.EmissionOfStatements as step
 use Rattle.njs_simul.specs.EmissionOfStatements.{CodedFunction, CodedStatement, slots_of, at_start}
 use Rattle.njs_simul.specs.Counts.{operations_in}
 use Rattle.njs_simul.specs.Sizes.{function_size}
@@ -27,9 +28,9 @@ use Rattle.njs_gen_stmt.specs.declared.function.Declaration.{Declaration}
 use Rattle.njs_gen_stmt.specs.declared.walk.Walk.{Walk}
 use Rattle.njs_gen_stmt.specs.declared.walk.Begun.{Begun}
 use Rattle.njs_gen_stmt.specs.Functions.{told_all}
-use Rattle.njs_gen_stmt.specs.Statements.{in_turn, in_turn_uses, declared_in, declared_uses, caught, caught_uses}
+use Rattle.njs_gen_stmt.specs.Statements.{in_turn, in_turn_uses, declared_in, declared_uses, caught, caught_uses, last, last_uses}
 use Rattle.njs_gen_stmt.specs.Walked.{Found, found, Reached, Made, IsUnbroken, IsInside, Alike, Walked, Remembers, unwritten, is_crowded, any_crowded, code_in, coded, variables, variables_uses, declaration_part, declaration_uses}
-use Rattle.njs_gen_stmt.proofs.Walks.{retold, walked_leaf, walked_one, walked_two}
+use Rattle.njs_gen_stmt.proofs.Walks.{retold, walked_leaf, walked_one, walked_two, walked_three}
 
 or_none : (b : Bool) → b ≡ (b || false)
 or_none true = refl
@@ -401,3 +402,23 @@ pub code_long : (f : FunctionTree) (first : ℕ) (ds : List Declared) (takes : B
 code_long f first ds takes around =
     let known = (sizes_are_true.functions (out-FunctionTree f).body (first + 1) ds takes).long (at_start around) [] in
     omega (arith, known)
+
+-- ---- `try`
+
+abbrev pub TryWalked : List Stmt → Option (List ℕ × List Stmt) → Option (List Stmt) → List ℕ → Walk → Walk → Type 0
+TryWalked body c l around w0 w1 = Walked (three (in_turn body) (caught c) (last l) step.try_catch) (three (in_turn_uses body) (caught_uses c) (last_uses l) (λ a b c. uses.both a (uses.both b c))) around w0 w1
+
+pub try_walked : (body : List Stmt) (c c' : Option (List ℕ × List Stmt)) (l l' : Option (List Stmt)) (around : List ℕ) (w0 w1 w2 w3 : Walk) → c ≡ c' → l ≡ l'
+    → Walked (in_turn body) (in_turn_uses body) around w0 w1 → Walked (caught c') (caught_uses c') around w1 w2 → Walked (last l') (last_uses l') around w2 w3 → TryWalked body c l around w0 w3
+try_walked body c c' l l' around w0 w1 w2 w3 same also t u v =
+    subst (λ x. TryWalked body x l around w0 w3) (sym same) (subst (λ x. TryWalked body c' x around w0 w3) (sym also)
+    (walked_three (in_turn body) (caught c') (last l') (in_turn_uses body) (caught_uses c') (last_uses l') step.try_catch around w0 w1 w2 w3 t u v))
+
+pub no_catch_walked : (around : List ℕ) (w : Walk) → Walked (caught None) (caught_uses None) around w w
+no_catch_walked around w = walked_leaf None around w
+
+pub no_last_walked : (around : List ℕ) (w : Walk) → Walked (last None) (last_uses None) around w w
+no_last_walked around w = walked_leaf None around w
+
+pub last_walked : (list : List Stmt) (around : List ℕ) (w0 w1 : Walk) → Walked (in_turn list) (in_turn_uses list) around w0 w1 → Walked (last (Some list)) (last_uses (Some list)) around w0 w1
+last_walked list around w0 w1 t = walked_one (in_turn list) (in_turn_uses list) Some around w0 w1 t

@@ -13,3 +13,4 @@ pub mod Walks
 pub mod FunctionWalks
 pub mod Puts
 pub mod FunctionEnds
+pub mod Scripts

@@ -2,7 +2,7 @@
 //! refused once stays so; the walk goes on, since a scope with too many names may still stand behind. The recursion is as deep as the
 //! tree.
 ghost use Rattle.std.specs.Prelude.{◌≡◌, ◌+◌, ◌++◌, ◌∷◌, ℕ, List, [], map, length, false, ◌||◌, None, IfOk, MatchResult};
-ghost use Rattle.std.specs.Option.{option_map};
+ghost use Rattle.std.specs.Option.{option_map, option_map_or};
 ghost use Rattle.njs_tree.specs.declared.tree.FunctionTree.{out-FunctionTree};
 ghost use Rattle.njs_meaning.specs.Meaning.{declared_as};
 ghost use Rattle.njs_meaning.specs.Places.{Around, Bindings};
@@ -146,8 +146,9 @@ fn reserve(w: &mut Walk<'_>)
         slots: List::new(w.alloc),
         ops: List::new(w.alloc),
     };
-    if w.functions.push(code).is_err() && w.fault.is_none() {
-        w.fault = Some(Fault::NoMemory);
+    match w.functions.push(code) {
+        Ok(()) => {}
+        Err(NoMemory) => refuse(w),
     }
 }
 
@@ -206,7 +207,7 @@ fn function_code(
 fn put(w: &mut Walk<'_>, number: usize, code: FunctionCode)
     ensures stays { IsUnbroken w.new.fault → IsUnbroken w.old.fault }
     ensures same { Same w.old w.new }
-    ensures put { (front behind : List SomeCode) → number ≡ length front → AreMade None w.old (front ++ (unwritten ∷ behind)) → AreMade w.new.fault w.new (front ++ (code ∷ behind)) }
+    ensures put { (front behind : List SomeCode) → IsUnbroken w.old.fault → number ≡ length front → AreMade w.old.fault w.old (front ++ (unwritten ∷ behind)) → AreMade w.new.fault w.new (front ++ (code ∷ behind)) }
 {
     let total = w.operations.saturating_add(code.ops.len());
     if total > MAX_OPS {
@@ -225,11 +226,12 @@ fn put_made(w: &mut Walk<'_>, number: usize, made: Result<FunctionCode, Fault>)
     ensures same { Same w.old w.new }
     ensures put { (front behind : List SomeCode) (code : SomeCode) → (IsUnbroken w.old.fault → (number ≡ length front) × MatchResult made (λ c. c ≡ code) (λ fault. Refused fault (length code.ops))) → AreMade w.old.fault w.old (front ++ (unwritten ∷ behind)) → AreMade w.new.fault w.new (front ++ (code ∷ behind)) }
 {
-    if w.fault.is_none() {
-        match made {
+    match w.fault {
+        Some(_) => {}
+        None => match made {
             Err(fault) => w.fault = Some(fault),
             Ok(code) => put(w, number, code),
-        }
+        },
     }
 }
 
@@ -284,15 +286,22 @@ fn declaration(alloc: Global, f: &FunctionTree, number: usize) -> Result<Declara
     let Ok(params) = u32::try_from(f.params.len()) else {
         return Err(NoMemory)
     };
-    let name = match &f.name {
-        None => Text::fixed(""),
-        Some(name) => name.copy(alloc)?,
-    };
+    let name = declared_name(alloc, &f.name)?;
     Ok(Declaration {
         name,
         number,
         params,
     })
+}
+
+// The name under which a function is declared.
+fn declared_name(alloc: Global, name: &Option<Text>) -> Result<Text, NoMemory>
+    ensures { IfOk result (λ text. text ≡ option_map_or (λ n. n) name.now []) }
+{
+    match name {
+        None => Ok(Text::fixed("")),
+        Some(name) => name.copy(alloc),
+    }
 }
 
 /// The functions in an expression.
@@ -341,8 +350,11 @@ pub fn in_expression(w: &mut Walk<'_>, e: &Expr, around: &[u32])
         ExprNode::Object(list) => in_fields(w, list, around),
         ExprNode::Function(f) => in_function_expression(w, f, around),
         ExprNode::Name(name) => in_name(w, name),
-        ExprNode::Num(_) | ExprNode::Str(_) | ExprNode::This | ExprNode::Null | ExprNode::Bool(_) =>
-            {}
+        ExprNode::Num(_) => {}
+        ExprNode::Str(_) => {}
+        ExprNode::This => {}
+        ExprNode::Null => {}
+        ExprNode::Bool(_) => {}
     }
 }
 
@@ -523,7 +535,9 @@ pub fn in_statement(w: &mut Walk<'_>, s: &Stmt, around: &[u32])
         }
         StmtNode::Label(_, body) => in_statement(w, body.get(), around),
         StmtNode::FunctionDecl(f) => in_declaration(w, f, around),
-        StmtNode::Continue(_) | StmtNode::Break(_) | StmtNode::Empty => {}
+        StmtNode::Continue(_) => {}
+        StmtNode::Break(_) => {}
+        StmtNode::Empty => {}
     }
 }
 

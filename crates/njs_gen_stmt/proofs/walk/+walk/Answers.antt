@@ -29,7 +29,7 @@ use Rattle.njs_gen_stmt.specs.Statements.{DeeperBy, WrotePart, WroteTest, WroteL
 use Rattle.njs_tree.specs.declared.tree.FunctionTree.{FunctionTree, out-FunctionTree}
 use Rattle.njs_gen_stmt.specs.Walked.{Walked, variables, variables_uses, declaration_part, declaration_uses}
 use Rattle.njs_gen_stmt.proofs.Walks.{walked_leaf, walked_one, walked_two, walked_three, walked_four, walked_some, as_walked, completes_more, completed}
-use Rattle.njs_gen_stmt.proofs.FunctionWalks.{name_walked, variables_walked, undeclared_walked, variable_walked, declared_walked, function_walked, declaration_walked, unnamed_walked, named_walked, caught_walked}
+use Rattle.njs_gen_stmt.proofs.FunctionWalks.{name_walked, variables_walked, undeclared_walked, variable_walked, declared_walked, function_walked, declaration_walked, unnamed_walked, named_walked, caught_walked, try_walked, no_catch_walked, no_last_walked, last_walked}
 use Rattle.njs_gen_stmt.proofs.Jumps.{branch_of, coded_branch, used_branch}
 use Rattle.njs_gen_expr.proofs.Nodes.{member_is}
 use Rattle.njs_gen_stmt.proofs.Nodes.{for_used}
@@ -446,3 +446,117 @@ in_caught-returns t c name =
     caught_walked name c.args.handler.now c.args.around.now c.with_scope-further.result c.args.w.now c.next_scope.new.w c.with_scope-further.new.w c.without_declared-declared.new.w c.in_statements.new.w c.without_declared-declared.result
     c.next_scope.ensures.stays (λ f ns h. (c.next_scope.ensures.passed f ns h).0) c.with_scope-further.ensures.stays c.with_scope-further.ensures.holds c.with_scope-further.ensures.given c.without_declared-declared.ensures.stays c.without_declared-declared.ensures.taken
     (subst (λ ks. Walked (in_turn c.args.handler.now) (in_turn_uses c.args.handler.now) ks c.without_declared-declared.new.w c.in_statements.new.w) c.as_slice.ensures c.in_statements.ensures)
+
+pub in_expression-returns-in-Num : goal.in_expression-returns-in-Num
+unfolding expression statement code.function code.branch code.first code.head uses.expression uses.statement uses.function uses.branch uses.first uses.head
+in_expression-returns-in-Num t c =
+    let i = c.in-Num in
+    let coded : expression c.args.e.now ≡ leaf (emit.constant (kind.Num i.field-0)) = search (rules, the_lemmas) in
+    let named : uses.expression c.args.e.now ≡ leaf uses.none = search (rules, the_lemmas) in
+    as_walked (expression c.args.e.now) (leaf (emit.constant (kind.Num i.field-0))) (uses.expression c.args.e.now) (leaf uses.none) c.args.around.now c.args.w.now c.args.w.now coded named
+    (walked_leaf (emit.constant (kind.Num i.field-0)) c.args.around.now c.args.w.now)
+
+pub in_expression-returns-in-Str : goal.in_expression-returns-in-Str
+unfolding expression statement code.function code.branch code.first code.head uses.expression uses.statement uses.function uses.branch uses.first uses.head
+in_expression-returns-in-Str t c =
+    let i = c.in-Str in
+    let coded : expression c.args.e.now ≡ leaf (emit.constant (kind.Str i.field-0)) = search (rules, the_lemmas) in
+    let named : uses.expression c.args.e.now ≡ leaf uses.none = search (rules, the_lemmas) in
+    as_walked (expression c.args.e.now) (leaf (emit.constant (kind.Str i.field-0))) (uses.expression c.args.e.now) (leaf uses.none) c.args.around.now c.args.w.now c.args.w.now coded named
+    (walked_leaf (emit.constant (kind.Str i.field-0)) c.args.around.now c.args.w.now)
+
+pub in_expression-returns-in-This : goal.in_expression-returns-in-This
+unfolding expression statement code.function code.branch code.first code.head uses.expression uses.statement uses.function uses.branch uses.first uses.head
+in_expression-returns-in-This t c =
+    let i = c.in-This in
+    let coded : expression c.args.e.now ≡ leaf (emit.constant kind.This) = search (rules, the_lemmas) in
+    let named : uses.expression c.args.e.now ≡ leaf uses.none = search (rules, the_lemmas) in
+    as_walked (expression c.args.e.now) (leaf (emit.constant kind.This)) (uses.expression c.args.e.now) (leaf uses.none) c.args.around.now c.args.w.now c.args.w.now coded named
+    (walked_leaf (emit.constant kind.This) c.args.around.now c.args.w.now)
+
+pub in_expression-returns-in-Null : goal.in_expression-returns-in-Null
+unfolding expression statement code.function code.branch code.first code.head uses.expression uses.statement uses.function uses.branch uses.first uses.head
+in_expression-returns-in-Null t c =
+    let i = c.in-Null in
+    let coded : expression c.args.e.now ≡ leaf (emit.constant kind.Null) = search (rules, the_lemmas) in
+    let named : uses.expression c.args.e.now ≡ leaf uses.none = search (rules, the_lemmas) in
+    as_walked (expression c.args.e.now) (leaf (emit.constant kind.Null)) (uses.expression c.args.e.now) (leaf uses.none) c.args.around.now c.args.w.now c.args.w.now coded named
+    (walked_leaf (emit.constant kind.Null) c.args.around.now c.args.w.now)
+
+pub in_expression-returns-in-Bool : goal.in_expression-returns-in-Bool
+unfolding expression statement code.function code.branch code.first code.head uses.expression uses.statement uses.function uses.branch uses.first uses.head
+in_expression-returns-in-Bool t c =
+    let i = c.in-Bool in
+    let coded : expression c.args.e.now ≡ leaf (emit.constant (kind.Bool i.field-0)) = search (rules, the_lemmas) in
+    let named : uses.expression c.args.e.now ≡ leaf uses.none = search (rules, the_lemmas) in
+    as_walked (expression c.args.e.now) (leaf (emit.constant (kind.Bool i.field-0))) (uses.expression c.args.e.now) (leaf uses.none) c.args.around.now c.args.w.now c.args.w.now coded named
+    (walked_leaf (emit.constant (kind.Bool i.field-0)) c.args.around.now c.args.w.now)
+
+pub in_statement-returns-in-Continue : goal.in_statement-returns-in-Continue
+unfolding expression statement code.function code.branch code.first code.head uses.expression uses.statement uses.function uses.branch uses.first uses.head
+in_statement-returns-in-Continue t c =
+    let i = c.in-Continue in
+    let coded : statement c.args.s.now ≡ leaf (step.ends_with (kind.Continue i.field-0)) = search (rules, the_lemmas) in
+    let named : uses.statement c.args.s.now ≡ leaf uses.none = search (rules, the_lemmas) in
+    as_walked (statement c.args.s.now) (leaf (step.ends_with (kind.Continue i.field-0))) (uses.statement c.args.s.now) (leaf uses.none) c.args.around.now c.args.w.now c.args.w.now coded named
+    (walked_leaf (step.ends_with (kind.Continue i.field-0)) c.args.around.now c.args.w.now)
+
+pub in_statement-returns-in-Break : goal.in_statement-returns-in-Break
+unfolding expression statement code.function code.branch code.first code.head uses.expression uses.statement uses.function uses.branch uses.first uses.head
+in_statement-returns-in-Break t c =
+    let i = c.in-Break in
+    let coded : statement c.args.s.now ≡ leaf (step.ends_with (kind.Break i.field-0)) = search (rules, the_lemmas) in
+    let named : uses.statement c.args.s.now ≡ leaf uses.none = search (rules, the_lemmas) in
+    as_walked (statement c.args.s.now) (leaf (step.ends_with (kind.Break i.field-0))) (uses.statement c.args.s.now) (leaf uses.none) c.args.around.now c.args.w.now c.args.w.now coded named
+    (walked_leaf (step.ends_with (kind.Break i.field-0)) c.args.around.now c.args.w.now)
+
+pub in_statement-returns-in-Empty : goal.in_statement-returns-in-Empty
+unfolding expression statement code.function code.branch code.first code.head uses.expression uses.statement uses.function uses.branch uses.first uses.head
+in_statement-returns-in-Empty t c =
+    let i = c.in-Empty in
+    let coded : statement c.args.s.now ≡ leaf (step.empty) = search (rules, the_lemmas) in
+    let named : uses.statement c.args.s.now ≡ leaf uses.none = search (rules, the_lemmas) in
+    as_walked (statement c.args.s.now) (leaf (step.empty)) (uses.statement c.args.s.now) (leaf uses.none) c.args.around.now c.args.w.now c.args.w.now coded named
+    (walked_leaf (step.empty) c.args.around.now c.args.w.now)
+
+pub in_statement-returns-in-None-finally : goal.in_statement-returns-in-None-finally
+unfolding expression statement code.function code.branch code.first code.head uses.expression uses.statement uses.function uses.branch uses.first uses.head
+in_statement-returns-in-None-finally t c =
+    let i = c.in-Try in
+    let coded : statement c.args.s.now ≡ three (in_turn i.body) (caught i.caught) (last i.finally) step.try_catch = search (rules, the_lemmas) in
+    let named : uses.statement c.args.s.now ≡ three (in_turn_uses i.body) (caught_uses i.caught) (last_uses i.finally) (λ a b c. uses.both a (uses.both b c)) = search (rules, the_lemmas) in
+    as_walked (statement c.args.s.now) (three (in_turn i.body) (caught i.caught) (last i.finally) step.try_catch) (uses.statement c.args.s.now) (three (in_turn_uses i.body) (caught_uses i.caught) (last_uses i.finally) (λ a b c. uses.both a (uses.both b c))) c.args.around.now c.args.w.now c.in_statements-in-Try.new.w coded named
+    (try_walked i.body i.caught (None) i.finally (None) c.args.around.now c.args.w.now c.in_statements-in-Try.new.w c.in_statements-in-Try.new.w c.in_statements-in-Try.new.w c.in-None.is c.in-None-finally.is c.in_statements-in-Try.ensures (no_catch_walked c.args.around.now c.in_statements-in-Try.new.w) (no_last_walked c.args.around.now c.in_statements-in-Try.new.w))
+
+pub in_statement-returns-in-Some-finally : goal.in_statement-returns-in-Some-finally
+unfolding expression statement code.function code.branch code.first code.head uses.expression uses.statement uses.function uses.branch uses.first uses.head
+in_statement-returns-in-Some-finally t c =
+    let i = c.in-Try in
+    let coded : statement c.args.s.now ≡ three (in_turn i.body) (caught i.caught) (last i.finally) step.try_catch = search (rules, the_lemmas) in
+    let named : uses.statement c.args.s.now ≡ three (in_turn_uses i.body) (caught_uses i.caught) (last_uses i.finally) (λ a b c. uses.both a (uses.both b c)) = search (rules, the_lemmas) in
+    as_walked (statement c.args.s.now) (three (in_turn i.body) (caught i.caught) (last i.finally) step.try_catch) (uses.statement c.args.s.now) (three (in_turn_uses i.body) (caught_uses i.caught) (last_uses i.finally) (λ a b c. uses.both a (uses.both b c))) c.args.around.now c.args.w.now c.in_statements-in-Some-finally.new.w coded named
+    (try_walked i.body i.caught (None) i.finally (Some c.in-Some-finally.list) c.args.around.now c.args.w.now c.in_statements-in-Try.new.w c.in_statements-in-Try.new.w c.in_statements-in-Some-finally.new.w c.in-None.is c.in-Some-finally.is c.in_statements-in-Try.ensures (no_catch_walked c.args.around.now c.in_statements-in-Try.new.w) (last_walked c.in-Some-finally.list c.args.around.now c.in_statements-in-Try.new.w c.in_statements-in-Some-finally.new.w c.in_statements-in-Some-finally.ensures))
+
+pub in_statement-returns-in-None-finally-2 : goal.in_statement-returns-in-None-finally-2
+unfolding expression statement code.function code.branch code.first code.head uses.expression uses.statement uses.function uses.branch uses.first uses.head
+in_statement-returns-in-None-finally-2 t c =
+    let i = c.in-Try in
+    let coded : statement c.args.s.now ≡ three (in_turn i.body) (caught i.caught) (last i.finally) step.try_catch = search (rules, the_lemmas) in
+    let named : uses.statement c.args.s.now ≡ three (in_turn_uses i.body) (caught_uses i.caught) (last_uses i.finally) (λ a b c. uses.both a (uses.both b c)) = search (rules, the_lemmas) in
+    as_walked (statement c.args.s.now) (three (in_turn i.body) (caught i.caught) (last i.finally) step.try_catch) (uses.statement c.args.s.now) (three (in_turn_uses i.body) (caught_uses i.caught) (last_uses i.finally) (λ a b c. uses.both a (uses.both b c))) c.args.around.now c.args.w.now c.in_caught.new.w coded named
+    (try_walked i.body i.caught (Some (c.in-Some.field-0-0, c.in-Some.handler)) i.finally (None) c.args.around.now c.args.w.now c.in_statements-in-Try.new.w c.in_caught.new.w c.in_caught.new.w c.in-Some.is c.in-None-finally-2.is c.in_statements-in-Try.ensures (c.in_caught.ensures c.in-Some.field-0-0) (no_last_walked c.args.around.now c.in_caught.new.w))
+
+pub in_statement-returns-in-Some-finally-2 : goal.in_statement-returns-in-Some-finally-2
+unfolding expression statement code.function code.branch code.first code.head uses.expression uses.statement uses.function uses.branch uses.first uses.head
+in_statement-returns-in-Some-finally-2 t c =
+    let i = c.in-Try in
+    let coded : statement c.args.s.now ≡ three (in_turn i.body) (caught i.caught) (last i.finally) step.try_catch = search (rules, the_lemmas) in
+    let named : uses.statement c.args.s.now ≡ three (in_turn_uses i.body) (caught_uses i.caught) (last_uses i.finally) (λ a b c. uses.both a (uses.both b c)) = search (rules, the_lemmas) in
+    as_walked (statement c.args.s.now) (three (in_turn i.body) (caught i.caught) (last i.finally) step.try_catch) (uses.statement c.args.s.now) (three (in_turn_uses i.body) (caught_uses i.caught) (last_uses i.finally) (λ a b c. uses.both a (uses.both b c))) c.args.around.now c.args.w.now c.in_statements-in-Some-finally-2.new.w coded named
+    (try_walked i.body i.caught (Some (c.in-Some.field-0-0, c.in-Some.handler)) i.finally (Some c.in-Some-finally-2.list) c.args.around.now c.args.w.now c.in_statements-in-Try.new.w c.in_caught.new.w c.in_statements-in-Some-finally-2.new.w c.in-Some.is c.in-Some-finally-2.is c.in_statements-in-Try.ensures (c.in_caught.ensures c.in-Some.field-0-0) (last_walked c.in-Some-finally-2.list c.args.around.now c.in_caught.new.w c.in_statements-in-Some-finally-2.new.w c.in_statements-in-Some-finally-2.ensures))
+
+pub in_elements-loop-i-preserved : goal.in_elements-loop-i-preserved
+in_elements-loop-i-preserved t c = ?
+
+pub in_variables-loop-i-preserved : goal.in_variables-loop-i-preserved
+in_variables-loop-i-preserved t c = ?

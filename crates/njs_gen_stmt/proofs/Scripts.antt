@@ -1,0 +1,61 @@
+-- How the code of a script is made of that of its functions and that of its body.
+use Rattle.std.proofs.Common.{◌≡◌, ℕ, zero, suc, ◌+◌, ◌<◌, ◌≤◌, List, [], ◌∷◌, ◌++◌, map, length, nat_lt, Bool, true, false, ◌||◌, Option, None, Some, Result, Ok, Err, refl, sym, ap, subst, arith, absurd, ◌∙◌}
+use Rattle.std.proofs.lemmas.List.{append-nil}
+use Rattle.njs_tree.specs.declared.tree.Item.{Item}
+use Rattle.njs_tree.specs.declared.tree.Script.{Script}
+use Rattle.njs_code.specs.declared.code.Code.{Code}
+use Rattle.njs_code.specs.declared.code.FunctionCode.{FunctionCode}
+use Rattle.njs_code.specs.declared.op.Op.{Op}
+use Rattle.njs_meaning.specs.declared.place.Place.{Place}
+use Rattle.njs_meaning.specs.Functions.{each_once}
+use Rattle.njs_meaning.specs.Parts.{Declared}
+use Rattle.njs_meaning.specs.Places.{Around, Bindings, assignable}
+use Rattle.njs_simul.specs.EmissionOfStatements.{slots_of, at_start}
+use Rattle.njs_simul.specs.Compiled.{items_part, body_of, module_around, code_of}
+use Rattle.njs_simul.specs.Counts.{operations_in, operations_of, max_operations}
+use Rattle.njs_simul.specs.Sizes.{body_size}
+use Rattle.njs_simul.proofs.Sizes.{sizes_are_true}
+use Rattle.njs_scope.specs.Planned.{planned, module_names}
+use Rattle.njs_scope.specs.Uses as uses
+use Rattle.njs_gen_expr.specs.declared.fault.Fault.{Fault}
+use Rattle.njs_gen_expr.specs.declared.fault.Fault.TheVariants.{NoMemory, TooLong}
+use Rattle.njs_gen_stmt.specs.declared.walk.Walk.{Walk}
+use Rattle.njs_gen_stmt.specs.Functions.{Refused, told_all}
+use Rattle.njs_gen_stmt.specs.Generated.{script_code, has_too_many_slots}
+use Rattle.njs_gen_stmt.specs.Walked.{Found, found, Made, Alike, IsUnbroken, is_crowded, any_crowded, coded}
+
+-- what the walk over the items of a script finds
+abbrev pub found_in : List Item → Around → Found
+found_in list names = found (coded (items_part list) 0 names) ((items_part list).declared 0) ((items_part list).names_arguments) [] []
+
+-- the operations of the body of a module
+abbrev pub body_ops : List Declared → List Item → Around → List Op
+body_ops ds list names = body_of ds ((items_part list).means 0) (at_start names) []
+
+-- what was refused in the functions is refused in the script
+pub refused_in_functions : (fault : Fault) (w : Walk) (list : List Item) (names : Around) → Made (Some fault) w (found_in list names) → Refused fault (operations_of (script_code list names))
+refused_in_functions NoMemory w list names m = tt
+refused_in_functions TooLong w list names m = omega (arith, m)
+
+body_long : (list : List Item) (names : Around) (ds : List Declared) → length (body_ops ds list names) ≡ body_size ds ((items_part list).means 0)
+body_long list names ds =
+    let known = (sizes_are_true.bodies list 0 ds).long (at_start names) [] in
+    omega (arith, known)
+
+-- what was refused in the body is refused in the script
+pub refused_in_body : (fault : Fault) (list : List Item) (names : Around) (ds : List Declared) → ds ≡ (items_part list).declared 0 → Refused fault (body_size ds ((items_part list).means 0))
+    → Refused fault (operations_of (script_code list names))
+refused_in_body NoMemory list names ds is r = tt
+refused_in_body TooLong list names ds is r =
+    let long = body_long list names ((items_part list).declared 0) in
+    let r1 = subst (λ es. 16777216 < body_size es ((items_part list).means 0)) is r in
+    omega (arith, long, r1)
+
+-- the names of a module's scope are the same in the plan and in the code
+pub module_same : (list : List Item) (outermost : Bindings) → Alike (items_part list) (uses.items_part list)
+    → (module_names (uses.items_part list) ∷ (outermost ∷ [])) ≡ module_around (items_part list) outermost
+module_same list outermost a =
+    let C = items_part list in
+    let U = uses.items_part list in
+    let around : List (List ℕ) → List (List ℕ) → Around = λ ns vs. assignable (each_once [] (ns ++ vs)) ∷ (outermost ∷ []) in
+    ap (λ ns. around ns U.vars) (a.declares 0 0) ∙ ap (λ vs. around (map (λ (d : Declared). d.name) (C.declared 0)) vs) a.vars
