@@ -1,6 +1,6 @@
 -- How the code of a script is made of that of its functions and that of its body.
-use Rattle.std.proofs.Common.{◌≡◌, ℕ, zero, suc, ◌+◌, ◌<◌, ◌≤◌, List, [], ◌∷◌, ◌++◌, map, length, nat_lt, Bool, true, false, ◌||◌, Option, None, Some, Result, Ok, Err, refl, sym, ap, subst, arith, absurd, ◌∙◌}
-use Rattle.std.proofs.lemmas.List.{append-nil}
+use Rattle.std.proofs.Common.{◌≡◌, ℕ, zero, suc, ◌+◌, ◌<◌, ◌≤◌, List, [], ◌∷◌, ◌++◌, map, length, nat_lt, Bool, true, false, ◌||◌, Option, None, Some, Result, Ok, Err, refl, sym, ap, subst, arith, ◌∙◌}
+use Rattle.std.proofs.lemmas.List.{append-nil, length-map}
 use Rattle.njs_tree.specs.declared.tree.Item.{Item}
 use Rattle.njs_tree.specs.declared.tree.Script.{Script}
 use Rattle.njs_code.specs.declared.code.Code.{Code}
@@ -11,7 +11,7 @@ use Rattle.njs_meaning.specs.Functions.{each_once}
 use Rattle.njs_meaning.specs.Parts.{Declared}
 use Rattle.njs_meaning.specs.Places.{Around, Bindings, assignable}
 use Rattle.njs_simul.specs.EmissionOfStatements.{slots_of, at_start}
-use Rattle.njs_simul.specs.Compiled.{items_part, body_of, module_around, code_of}
+use Rattle.njs_simul.specs.Compiled.{Placed, items_part, body_of, module_around, code_of}
 use Rattle.njs_simul.specs.Counts.{operations_in, operations_of, max_operations}
 use Rattle.njs_simul.specs.Sizes.{body_size}
 use Rattle.njs_simul.proofs.Sizes.{sizes_are_true}
@@ -59,3 +59,16 @@ module_same list outermost a =
     let U = uses.items_part list in
     let around : List (List ℕ) → List (List ℕ) → Around = λ ns vs. assignable (each_once [] (ns ++ vs)) ∷ (outermost ∷ []) in
     ap (λ ns. around ns U.vars) (a.declares 0 0) ∙ ap (λ vs. around (map (λ (d : Declared). d.name) (C.declared 0)) vs) a.vars
+
+pub behind_body : (fs : List FunctionCode) (list : List Item) (names : Around) → ((first : ℕ) → length ((items_part list).functions first) ≡ (items_part list).size) → fs ≡ coded (items_part list) 0 names
+    → length fs ≡ 0 + (items_part list).size
+behind_body fs list names count is = ap length is ∙ length-map ((items_part list).functions 0) (λ (f : Placed). (f names).code) ∙ count 0
+
+pub script_made : (list : List Item) (names : Around) (fs : List FunctionCode) (slots : List ℕ) (ops : List Op) → fs ≡ coded (items_part list) 0 names → slots ≡ slots_of names → ops ≡ body_ops ((items_part list).declared 0) list names
+    → (let made : Code = record { functions = fs; body = record { params = 0; builds = true; slots = slots; ops = ops } } in made ≡ script_code list names)
+script_made list names fs slots ops a b c =
+    let made : List FunctionCode → List ℕ → List Op → Code = λ gs ks os. record { functions = gs; body = record { params = 0; builds = true; slots = ks; ops = os } } in
+    ap (λ gs. made gs slots ops) a ∙ ap (λ ks. made (coded (items_part list) 0 names) ks ops) b ∙ ap (λ os. made (coded (items_part list) 0 names) (slots_of names) os) c
+
+pub script_is : (script : Script) (outermost : Bindings) (list : List Item) → script.items ≡ list → script_code list (module_around (items_part list) outermost) ≡ code_of script outermost
+script_is script outermost list same = ap (λ l. script_code l (module_around (items_part l) outermost)) (sym same)

@@ -33,6 +33,8 @@ use Rattle.njs_gen_stmt.proofs.FunctionWalks.{name_walked, variables_walked, und
 use Rattle.njs_gen_stmt.proofs.Jumps.{branch_of, coded_branch, used_branch}
 use Rattle.njs_gen_expr.proofs.Nodes.{member_is}
 use Rattle.njs_gen_stmt.proofs.Nodes.{for_used}
+use Rattle.njs_gen_stmt.specs.declared.walk.Walk.{Walk}
+use Rattle.njs_gen_stmt.proofs.walk.+walk.Goals.{in_elements-in-Some, in_elements-in_default, in_variables-in-Some, in_variables-in_default}
 use Rattle.njs_gen_stmt.proofs.walk.+walk.Goals as goal
 
 pub in_expression-returns-in-Comma : goal.in_expression-returns-in-Comma
@@ -556,7 +558,28 @@ in_statement-returns-in-Some-finally-2 t c =
     (try_walked i.body i.caught (Some (c.in-Some.field-0-0, c.in-Some.handler)) i.finally (Some c.in-Some-finally-2.list) c.args.around.now c.args.w.now c.in_statements-in-Try.new.w c.in_caught.new.w c.in_statements-in-Some-finally-2.new.w c.in-Some.is c.in-Some-finally-2.is c.in_statements-in-Try.ensures (c.in_caught.ensures c.in-Some.field-0-0) (last_walked c.in-Some-finally-2.list c.args.around.now c.in_caught.new.w c.in_statements-in-Some-finally-2.new.w c.in_statements-in-Some-finally-2.ensures))
 
 pub in_elements-loop-i-preserved : goal.in_elements-loop-i-preserved
-in_elements-loop-i-preserved t c = ?
+in_elements-loop-i-preserved t c =
+    let x = c.index-list-i.result in
+    let step : Walked (optional x) (optional_uses x) c.args.around.now c.loop-i.w c.match-list-i.w = elim c.match-list-i.branch [
+      | in_elements-in-Some w ↦
+          subst (λ v. Walked (optional x) (optional_uses x) c.args.around.now c.loop-i.w v) (sym w.w-is)
+          (subst (λ (o : Option Expr). Walked (optional o) (optional_uses o) c.args.around.now c.loop-i.w w.in_expression.new.w) (sym w.in-Some.is)
+          (walked_some (expression w.in-Some.e) (uses.expression w.in-Some.e) c.args.around.now c.loop-i.w w.in_expression.new.w w.in_expression.ensures))
+      | in_elements-in_default w ↦
+          subst (λ v. Walked (optional x) (optional_uses x) c.args.around.now c.loop-i.w v) (sym w.w-is)
+          (subst (λ (o : Option Expr). Walked (optional o) (optional_uses o) c.args.around.now c.loop-i.w c.loop-i.w) (sym w.in_default.is) (walked_leaf None c.args.around.now c.loop-i.w))
+    ] in
+    completes_more (λ (l : List (Option Expr)). each_held (map (option_map expression) l)) (λ (l : List (Option Expr)). one (each_held (map (option_map uses.expression) l)) uses.all_held) c.args.around.now (c.loop-i.i + 1) c.loop-i.i c.as_slice-list.result.now x c.args.w.now c.loop-i.w c.match-list-i.w (omega arith) c.loop-i-test.true c.index-list-i.is c.loop-i.invariant
+    (λ xs end h. walked_two (optional x) (each_held (map (option_map expression) xs)) (optional_uses x) (one (each_held (map (option_map uses.expression) xs)) uses.all_held) (λ y ys. y ∷ ys) c.args.around.now c.loop-i.w c.match-list-i.w end step h)
 
 pub in_variables-loop-i-preserved : goal.in_variables-loop-i-preserved
-in_variables-loop-i-preserved t c = ?
+in_variables-loop-i-preserved t c =
+    let x = c.index-list-i.result in
+    let step : (xs : List (List ℕ × Option Expr)) (end : Walk) → Walked (declared_in xs) (declared_uses xs) c.args.around.now c.match-variable.w end → Walked (declared_in (x ∷ xs)) (declared_uses (x ∷ xs)) c.args.around.now c.loop-i.w end = elim c.match-variable.branch [
+      | in_variables-in-Some w ↦ (λ xs end h.
+          declared_walked x w.in-Some.e w.in-Some.is xs c.args.around.now c.loop-i.w w.in_variable.new.w end (w.in_variable.ensures x.0)
+          (subst (λ v. Walked (declared_in xs) (declared_uses xs) c.args.around.now v end) w.w-is h))
+      | in_variables-in_default w ↦ (λ xs end h.
+          undeclared_walked x w.in_default.is xs c.args.around.now c.loop-i.w end (subst (λ v. Walked (declared_in xs) (declared_uses xs) c.args.around.now v end) w.w-is h))
+    ] in
+    completes_more (λ (l : List (List ℕ × Option Expr)). declared_in l) (λ (l : List (List ℕ × Option Expr)). declared_uses l) c.args.around.now (c.loop-i.i + 1) c.loop-i.i c.as_slice-list.result.now x c.args.w.now c.loop-i.w c.match-variable.w (omega arith) c.loop-i-test.true c.index-list-i.is c.loop-i.invariant step

@@ -1,4 +1,4 @@
-use Rattle.std.proofs.Common.{◌≡◌, ℕ, zero, suc, ◌+◌, ◌-◌, ◌<◌, ◌≤◌, List, [], ◌∷◌, ◌++◌, map, length, take, nat_lt, Bool, true, false, ◌||◌, Option, None, Some, refl, sym, ap, subst, arith, rules, absurd, ◌∙◌}
+use Rattle.std.proofs.Common.{◌≡◌, ℕ, zero, suc, ◌+◌, ◌-◌, ◌<◌, ◌≤◌, List, [], ◌∷◌, ◌++◌, map, length, take, nat_lt, Bool, true, false, ◌||◌, Option, None, Some, refl, sym, ap, subst, arith, rules, ◌∙◌}
 use Rattle.std.specs.Prelude.{MatchResult, Ok, Err}
 use Rattle.std.proofs.Math.Seq.{set-append_seam}
 use Rattle.njs_tree.specs.declared.tree.FunctionTree.{FunctionTree, out-FunctionTree}
@@ -25,4 +25,4 @@ returns-clause-begun c f own h =
     (h4, (h1.1, h2.1, λ going.
       let going1 : IsUnbroken w1.fault = c.without_declared-declared.ensures.stays (c.reserve.ensures.stays going) in
       let m = unbroken w1.fault w1 f going1 h2.3 in
-      (c.len.ensures ∙ ap length m.0, h3.1 going1, m.2)))
+      (c.len-number.ensures ∙ ap length m.0, h3.1 going1, m.2)))

@@ -1,4 +1,4 @@
-use Rattle.std.proofs.Common.{◌≡◌, ℕ, zero, suc, ◌+◌, ◌-◌, ◌<◌, ◌≤◌, List, [], ◌∷◌, ◌++◌, map, length, take, nat_lt, Bool, true, false, ◌||◌, Option, None, Some, refl, sym, ap, subst, arith, rules, absurd, ◌∙◌}
+use Rattle.std.proofs.Common.{◌≡◌, ℕ, zero, suc, ◌+◌, ◌-◌, ◌<◌, ◌≤◌, List, [], ◌∷◌, ◌++◌, map, length, take, nat_lt, Bool, true, false, ◌||◌, Option, None, Some, refl, sym, ap, subst, arith, rules, ◌∙◌}
 use Rattle.std.specs.Prelude.{MatchResult, Ok, Err}
 use Rattle.std.proofs.lemmas.List.{length-append}
 use Rattle.njs_tree.specs.declared.tree.FunctionTree.{FunctionTree, out-FunctionTree}
@@ -38,4 +38,4 @@ returns-clause-ended c b own around start nested ds takes scopes places known in
     let put = c.put_made.ensures.put b.functions nested code made (code_reached w fs ds takes scopes places h) in
     ended w v b.functions nested code ds b.declared takes b.takes_arguments scopes places k.declared k.names_arguments c.either-w.result c.put_made.ensures.same h put
     (c.either-w.ensures ∙ ap (λ (ns : Bindings). v.crowded || nat_lt 65535 (length ns)) known.0)
-    (λ going. (known.2 (c.put_made.ensures.stays going)).1)
+    (λ going. let is = known.2 (c.put_made.ensures.stays going) in (is.1, is.2))
