@@ -1,6 +1,7 @@
 -- How the code of a script is made of that of its functions and that of its body.
-use Rattle.std.proofs.Common.{◌≡◌, ℕ, zero, suc, ◌+◌, ◌<◌, ◌≤◌, List, [], ◌∷◌, ◌++◌, map, length, nat_lt, Bool, true, false, ◌||◌, Option, None, Some, Result, Ok, Err, refl, sym, ap, subst, arith, ◌∙◌}
+use Rattle.std.proofs.Common.{◌≡◌, ℕ, zero, suc, ◌+◌, ◌<◌, ◌≤◌, List, [], ◌∷◌, ◌++◌, map, length, get_or, drop, nat_lt, Bool, true, false, ◌||◌, Option, None, Some, Result, Ok, Err, refl, sym, ap, subst, arith, ◌∙◌}
 use Rattle.std.proofs.lemmas.List.{append-nil, length-map}
+use Rattle.std.proofs.lemmas.Bool.{le-ltb}
 use Rattle.njs_tree.specs.declared.tree.Item.{Item}
 use Rattle.njs_tree.specs.declared.tree.Script.{Script}
 use Rattle.njs_code.specs.declared.code.Code.{Code}
@@ -22,7 +23,7 @@ use Rattle.njs_gen_expr.specs.declared.fault.Fault.TheVariants.{NoMemory, TooLon
 use Rattle.njs_gen_stmt.specs.declared.walk.Walk.{Walk}
 use Rattle.njs_gen_stmt.specs.Functions.{Refused, told_all}
 use Rattle.njs_gen_stmt.specs.Generated.{script_code, has_too_many_slots}
-use Rattle.njs_gen_stmt.specs.Walked.{Found, found, Made, Alike, IsUnbroken, is_crowded, any_crowded, coded}
+use Rattle.njs_gen_stmt.specs.Walked.{Found, found, Made, Alike, IsUnbroken, IsInside, is_crowded, any_crowded, coded}
 
 -- what the walk over the items of a script finds
 abbrev pub found_in : List Item → Around → Found
@@ -61,7 +62,7 @@ module_same list outermost a =
     ap (λ ns. around ns U.vars) (a.declares 0 0) ∙ ap (λ vs. around (map (λ (d : Declared). d.name) (C.declared 0)) vs) a.vars
 
 pub behind_body : (fs : List FunctionCode) (list : List Item) (names : Around) → ((first : ℕ) → length ((items_part list).functions first) ≡ (items_part list).size) → fs ≡ coded (items_part list) 0 names
-    → length fs ≡ 0 + (items_part list).size
+    → length fs ≡ (items_part list).size
 behind_body fs list names count is = ap length is ∙ length-map ((items_part list).functions 0) (λ (f : Placed). (f names).code) ∙ count 0
 
 pub script_made : (list : List Item) (names : Around) (fs : List FunctionCode) (slots : List ℕ) (ops : List Op) → fs ≡ coded (items_part list) 0 names → slots ≡ slots_of names → ops ≡ body_ops ((items_part list).declared 0) list names
@@ -72,3 +73,20 @@ script_made list names fs slots ops a b c =
 
 pub script_is : (script : Script) (outermost : Bindings) (list : List Item) → script.items ≡ list → script_code list (module_around (items_part list) outermost) ≡ code_of script outermost
 script_is script outermost list same = ap (λ l. script_code l (module_around (items_part l) outermost)) (sym same)
+
+pub body_same : (ops : List Op) (es ds : List Declared) (list : List Item) (names : Around) → ops ≡ body_ops es list names → es ≡ ds → ops ≡ body_ops ds list names
+body_same ops es ds list names is same = is ∙ ap (λ x. body_ops x list names) same
+
+-- the two first scopes of a plan, and those behind them
+pub first_scopes : (a b c d : Bindings) (xs ys : List Bindings) → a ∷ (b ∷ xs) ≡ c ∷ (d ∷ ys) → (a ≡ c) × (b ≡ d) × (xs ≡ ys)
+first_scopes a b c d xs ys same = (ap (λ (l : List Bindings). get_or l 0 a) same, ap (λ (l : List Bindings). get_or l 1 b) same, ap (λ (l : List Bindings). drop 2 l) same)
+
+pub module_inside : (list : List Item) (outermost : Bindings) → IsInside (module_around (items_part list) outermost)
+module_inside list outermost = (assignable (each_once [] (map (λ (d : Declared). d.name) ((items_part list).declared 0) ++ (items_part list).vars)), outermost ∷ [], refl)
+
+-- no scope has too many slots
+pub not_crowded : (own : Bindings) (names : Around) (list : List Item) (outermost : Bindings) (b : Bool) → names ≡ own ∷ (outermost ∷ []) → length own ≤ 65535 → b ≡ any_crowded (coded (items_part list) 0 names) → b ≡ false
+    → has_too_many_slots (script_code list names) ≡ false
+not_crowded own names list outermost b same few is none =
+    let own_few : is_crowded (slots_of names) ≡ false = ap (λ ns. is_crowded (slots_of ns)) same ∙ le-ltb 65535 (length own) few in
+    ap (λ x. x || any_crowded (coded (items_part list) 0 names)) own_few ∙ sym is ∙ none

@@ -1,0 +1,43 @@
+use Rattle.std.proofs.Common.{◌≡◌, ℕ, zero, suc, ◌+◌, ◌<◌, ◌≤◌, List, [], ◌∷◌, ◌++◌, map, length, get_or, drop, nat_lt, Bool, true, false, ◌||◌, Option, None, Some, refl, sym, ap, subst, arith, rules, ◌∙◌}
+use Rattle.std.specs.Prelude.{MatchResult, IfOk, Ok, Err}
+use Rattle.std.proofs.lemmas.List.{append-nil, length-map}
+use Rattle.njs_tree.specs.declared.tree.Item.{Item}
+use Rattle.njs_tree.specs.declared.tree.Script.{Script}
+use Rattle.njs_code.specs.declared.code.FunctionCode.{FunctionCode}
+use Rattle.njs_meaning.specs.Places.{Around, Bindings}
+use Rattle.njs_simul.specs.Counts.{operations_in, operations_of, max_operations}
+use Rattle.njs_simul.specs.EmissionOfStatements.{slots_of, at_start}
+use Rattle.njs_simul.specs.Compiled.{Placed, items_part, module_around, code_of, body_of}
+use Rattle.njs_simul.specs.Sizes.{body_size}
+use Rattle.njs_scope.specs.Uses as uses
+use Rattle.njs_scope.specs.Planned.{planned, module_names}
+use Rattle.njs_gen_stmt.specs.Functions.{IsIn, Refused, told_all}
+use Rattle.njs_gen_stmt.specs.Generated.{script_code, has_too_many_slots, Explains}
+use Rattle.njs_gen_stmt.specs.Walked.{Found, found, Reached, Made, IsInside, coded}
+use Rattle.njs_gen_stmt.proofs.Scripts.{found_in, body_ops, refused_in_functions, refused_in_body, module_same, module_inside, behind_body, script_is, not_crowded}
+use Rattle.njs_gen_stmt.proofs.script.code.Goals as goal
+
+pub returns-in-Ok-with_body : goal.returns-in-Ok-with_body
+returns-in-Ok-with_body c script outermost same scopes places =
+    let list = c.args.list.now in
+    let U = uses.items_part list in
+    let planned_own = module_names U in
+    let names = module_around (items_part list) outermost in
+    let is = module_same list outermost c.walked-w.ensures.alike in
+    let stand : c.args.scopes.now ≡ outermost ∷ (planned_own ∷ (U.means 0).scopes (planned_own ∷ (outermost ∷ []))) =
+    subst (λ (l : List Item). c.args.scopes.now ≡ outermost ∷ (module_names (uses.items_part l) ∷ ((uses.items_part l).means 0).scopes (module_names (uses.items_part l) ∷ (outermost ∷ [])))) same scopes in
+    let used : c.args.places.now ≡ (U.means 0).places names =
+    subst (λ (l : List Item). c.args.places.now ≡ ((uses.items_part l).means 0).places (module_names (uses.items_part l) ∷ (outermost ∷ []))) same places ∙ ap (λ (ns : Around). (U.means 0).places ns) is in
+    let out : c.outermost-item.result ≡ outermost = c.outermost-item.is ∙ ap (λ (l : List Bindings). get_or l 0 c.outermost-item.result) stand in
+    let own : c.own-item.result ≡ planned_own = c.own-item.is ∙ ap (λ (l : List Bindings). get_or l 1 c.own-item.result) stand in
+    let inner : drop 2 c.args.scopes.now ≡ (U.means 0).scopes names = ap (λ (l : List Bindings). drop 2 l) stand ∙ ap (λ (ns : Around). (U.means 0).scopes ns) is in
+    let slots : c.in-Ok.around ≡ slots_of names =
+    c.in-Ok.ensures ∙ ap (λ n. n ∷ (c.len-2.result ∷ [])) c.len.ensures ∙ ap (λ n. length c.own-item.result ∷ (n ∷ [])) c.len-2.ensures
+    ∙ ap (λ (o : Bindings). length o ∷ (length c.outermost-item.result ∷ [])) own ∙ ap (λ (o : Bindings). length planned_own ∷ (length o ∷ [])) out ∙ ap (λ (ns : Around). slots_of ns) is in
+    let reached = c.walked-w.ensures.reached names (module_inside list outermost) (c.as_slice.ensures ∙ slots) inner used in
+    let around : names ≡ c.as_slice-2.result.now ∷ (outermost ∷ []) = sym is ∙ ap (λ (o : Bindings). o ∷ (outermost ∷ [])) (sym (c.as_slice-2.ensures ∙ own)) in
+    let made = c.in-Ok-with_body.ensures names (outermost, [], around) slots used c.walked-w.ensures.alike.count reached.3 in
+    let whole = script_is script outermost list same in
+    let few : length c.as_slice-2.result.now ≤ 65535 = omega (arith, ap length c.as_slice-2.ensures) in
+    let fits = not_crowded c.as_slice-2.result.now names list outermost c.walked-w.result.crowded around few reached.2 c.if-w.false in
+    (made.0 ∙ whole, (subst (λ k. has_too_many_slots k ≡ false) whole fits, subst (λ k. operations_of k ≤ max_operations) whole made.1))
