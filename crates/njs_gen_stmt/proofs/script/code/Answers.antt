@@ -1,6 +1,6 @@
-use Rattle.std.proofs.Common.{◌≡◌, ℕ, zero, suc, ◌+◌, ◌<◌, ◌≤◌, List, [], ◌∷◌, ◌++◌, map, length, get_or, drop, nat_lt, Bool, true, false, ◌||◌, Option, None, Some, refl, sym, ap, subst, arith, rules, ◌∙◌}
+use Rattle.std.proofs.Common.{◌≡◌, ℕ, zero, suc, ◌+◌, ◌-◌, ◌<◌, ◌≤◌, List, [], ◌∷◌, ◌++◌, map, length, get_or, take, drop, nat_lt, Bool, true, false, ◌||◌, Option, None, Some, refl, sym, ap, subst, arith, rules, ◌∙◌}
 use Rattle.std.specs.Prelude.{MatchResult, IfOk, Ok, Err}
-use Rattle.std.proofs.lemmas.List.{append-nil, length-map}
+use Rattle.std.proofs.lemmas.List.{append-nil, length-map, length-drop, take_all}
 use Rattle.njs_tree.specs.declared.tree.Item.{Item}
 use Rattle.njs_tree.specs.declared.tree.Script.{Script}
 use Rattle.njs_code.specs.declared.code.FunctionCode.{FunctionCode}
@@ -30,7 +30,8 @@ returns-in-Ok-with_body c script outermost same scopes places =
     subst (λ (l : List Item). c.args.places.now ≡ ((uses.items_part l).means 0).places (module_names (uses.items_part l) ∷ (outermost ∷ []))) same places ∙ ap (λ (ns : Around). (U.means 0).places ns) is in
     let out : c.outermost-item.result ≡ outermost = c.outermost-item.is ∙ ap (λ (l : List Bindings). get_or l 0 c.outermost-item.result) stand in
     let own : c.own-item.result ≡ planned_own = c.own-item.is ∙ ap (λ (l : List Bindings). get_or l 1 c.own-item.result) stand in
-    let inner : drop 2 c.args.scopes.now ≡ (U.means 0).scopes names = ap (λ (l : List Bindings). drop 2 l) stand ∙ ap (λ (ns : Around). (U.means 0).scopes ns) is in
+    let short : length (drop 2 c.args.scopes.now) ≤ length c.args.scopes.now - 2 = omega (arith, length-drop 2 c.args.scopes.now) in
+    let inner : take (length c.args.scopes.now - 2) (drop 2 c.args.scopes.now) ≡ (U.means 0).scopes names = take_all (length c.args.scopes.now - 2) (drop 2 c.args.scopes.now) short ∙ ap (λ (l : List Bindings). drop 2 l) stand ∙ ap (λ (ns : Around). (U.means 0).scopes ns) is in
     let slots : c.in-Ok.around ≡ slots_of names =
     c.in-Ok.ensures ∙ ap (λ n. n ∷ (c.len-2.result ∷ [])) c.len.ensures ∙ ap (λ n. length c.own-item.result ∷ (n ∷ [])) c.len-2.ensures
     ∙ ap (λ (o : Bindings). length o ∷ (length c.outermost-item.result ∷ [])) own ∙ ap (λ (o : Bindings). length planned_own ∷ (length o ∷ [])) out ∙ ap (λ (ns : Around). slots_of ns) is in
