@@ -1,5 +1,5 @@
 -- How statements that hold others are written (ECMA-262 5.1 §12.1, §12.5, §12.11, §12.12, §12.14).
-use Rattle.std.proofs.Common.{◌≡◌, ℕ, suc, ◌+◌, List, [], ◌∷◌, ◌++◌, length, Option, None, Some, refl, sym, ap, subst, arith, ◌∙◌}
+use Rattle.std.proofs.Common.{◌≡◌, ℕ, suc, ◌+◌, List, [], ◌∷◌, ◌++◌, Option, None, Some, refl, sym, ap, subst, arith, ◌∙◌}
 use Rattle.std.proofs.lemmas.List.{append_assoc}
 use Rattle.njs_code.specs.declared.op.Address.{Address}
 use Rattle.njs_code.specs.declared.op.Kind.TheVariants as kind
@@ -16,7 +16,7 @@ use Rattle.njs_scope.specs.Uses as uses
 use Rattle.njs_scope.specs.Uses.{Of_part}
 use Rattle.njs_gen_expr.specs.declared.here.Here.{Here}
 use Rattle.njs_gen_expr.specs.declared.writer.Mark.{Mark}
-use Rattle.njs_gen_expr.specs.Written.{Progress, IsGoing, Draft, draft, Holds, Stands}
+use Rattle.njs_gen_expr.specs.Written.{Progress, IsGoing, draft, Holds, Stands}
 use Rattle.njs_gen_expr.specs.Parts.{Wrote, WroteValue}
 use Rattle.njs_gen_expr.proofs.Drafts.{recount, split}
 use Rattle.njs_gen_expr.proofs.Shapes.{Puts, Deeper}

@@ -1,22 +1,19 @@
 -- How parts that end somewhere are written: turns of loops (ECMA-262 5.1 §12.6), `catch` and `finally` (§12.14).
-use Rattle.std.proofs.Common.{◌≡◌, ℕ, suc, ◌+◌, List, [], ◌∷◌, ◌++◌, map, Option, None, Some, refl, sym, ap, subst, arith, ◌∙◌}
+use Rattle.std.proofs.Common.{◌≡◌, ℕ, suc, ◌+◌, List, [], ◌++◌, Option, None, Some, refl, ap, arith, ◌∙◌}
 use Rattle.njs_tree.specs.declared.tree.Stmt.{Stmt}
 use Rattle.njs_code.specs.declared.op.Address.{Address}
-use Rattle.njs_code.specs.declared.op.Kind.{Kind}
 use Rattle.njs_code.specs.declared.op.Kind.TheVariants as kind
 use Rattle.njs_code.specs.declared.op.Op.{Op}
 use Rattle.njs_meaning.specs.declared.place.Place.{Place}
-use Rattle.njs_meaning.specs.Parts.{Part, one}
 use Rattle.njs_simul.specs.Emission as emit
 use Rattle.njs_simul.specs.Emission.{deeper, op, address, inside}
 use Rattle.njs_simul.specs.EmissionOfStatements as step
 use Rattle.njs_simul.specs.Compiled.{Of_statement}
-use Rattle.njs_scope.specs.Uses as uses
 use Rattle.njs_scope.specs.Uses.{Of_part}
 use Rattle.njs_gen_expr.specs.declared.here.Here.{Here}
 use Rattle.njs_gen_expr.specs.Written.{Progress, IsGoing, Draft, draft, Holds, Stands}
 use Rattle.njs_gen_expr.specs.Parts.{Wrote}
-use Rattle.njs_gen_expr.proofs.Drafts.{recount, split, bare}
+use Rattle.njs_gen_expr.proofs.Drafts.{recount, bare}
 use Rattle.njs_gen_expr.proofs.Shapes.{Puts, Deeper}
 use Rattle.njs_gen_stmt.specs.Statements.{DeeperBy, WroteLabelled, Within, InFront, turned, in_turn, in_turn_uses, caught, caught_uses, last, last_uses, last_size, finally, before_last, caught_size, catch, catching, before_catch}
 use Rattle.njs_gen_stmt.proofs.Steps.{failed_holds, Stays, Begins}

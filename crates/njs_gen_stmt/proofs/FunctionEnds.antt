@@ -1,20 +1,19 @@
 -- How the walk over a function begins and ends.
-use Rattle.std.proofs.Common.{◌≡◌, ℕ, zero, suc, ◌+◌, ◌-◌, ◌<◌, ◌≤◌, List, [], ◌∷◌, ◌++◌, length, take, nat_lt, Bool, true, false, ◌||◌, Option, None, Some, refl, sym, ap, subst, arith, ◌∙◌}
-use Rattle.std.proofs.lemmas.List.{append-nil, length-append}
+use Rattle.std.proofs.Common.{◌≡◌, ℕ, ◌-◌, ◌<◌, List, [], ◌∷◌, ◌++◌, length, take, Bool, false, ◌||◌, Option, None, Some, refl, sym, ap, subst, arith, ◌∙◌}
+use Rattle.std.proofs.lemmas.List.{length-append}
 use Rattle.std.proofs.Math.Seq.{take-append_seam}
-use Rattle.njs_tree.specs.declared.tree.FunctionTree.{FunctionTree, out-FunctionTree}
+use Rattle.njs_tree.specs.declared.tree.FunctionTree.{FunctionTree}
 use Rattle.njs_code.specs.declared.code.FunctionCode.{FunctionCode}
 use Rattle.njs_meaning.specs.declared.place.Place.{Place}
 use Rattle.njs_meaning.specs.Parts.{Declared}
 use Rattle.njs_meaning.specs.Places.{Around, Bindings}
-use Rattle.njs_simul.specs.Counts.{operations_in}
 use Rattle.njs_gen_expr.specs.declared.fault.Fault.{Fault}
 use Rattle.njs_gen_expr.specs.declared.fault.Fault.TheVariants.{NoMemory, TooLong}
 use Rattle.njs_gen_stmt.specs.declared.function.Declaration.{Declaration}
 use Rattle.njs_gen_stmt.specs.declared.walk.Walk.{Walk}
 use Rattle.std.specs.Prelude.{Result, MatchResult}
 use Rattle.njs_gen_stmt.specs.Functions.{IsIn, Refused, told_all}
-use Rattle.njs_gen_stmt.specs.Walked.{Found, found, Reached, Made, AreMade, Same, IsInside, IsUnbroken, unwritten, is_crowded, any_crowded, code_in}
+use Rattle.njs_gen_stmt.specs.Walked.{Found, found, Reached, Made, AreMade, Same, IsInside, IsUnbroken, unwritten, is_crowded, code_in}
 use Rattle.njs_gen_stmt.proofs.FunctionWalks.{none_in, none_crowded}
 use Rattle.njs_gen_stmt.proofs.Puts.{operations_put, crowded_put}
 

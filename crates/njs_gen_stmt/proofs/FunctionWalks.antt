@@ -1,15 +1,15 @@
 -- How functions are walked over, and parts in scopes of their own.
-use Rattle.std.proofs.Common.{◌≡◌, ℕ, suc, ◌+◌, List, [], ◌∷◌, ◌++◌, map, length, Bool, true, false, ◌||◌, if◌then◌else◌, Option, None, Some, codes, bytes_eq, refl, sym, ap, subst, arith, rules, ◌∙◌}
-use Rattle.std.specs.Option.{option_map, option_map_or}
-use Rattle.std.proofs.lemmas.List.{append-nil, append_assoc, map-append, length-append, length-map}
+use Rattle.std.proofs.Common.{◌≡◌, ℕ, ◌+◌, List, [], ◌∷◌, ◌++◌, map, length, Bool, true, false, ◌||◌, if◌then◌else◌, Option, None, Some, codes, bytes_eq, refl, sym, ap, subst, arith, rules, ◌∙◌}
+use Rattle.std.specs.Option.{option_map}
+use Rattle.std.proofs.lemmas.List.{append-nil, append_assoc, length-append, length-map}
 use Rattle.njs_tree.specs.declared.tree.Expr.{Expr, the_lemmas}
 use Rattle.njs_tree.specs.declared.tree.Stmt.{Stmt}
 use Rattle.njs_tree.specs.declared.tree.FunctionTree.{FunctionTree, out-FunctionTree}
 use Rattle.njs_code.specs.declared.code.FunctionCode.{FunctionCode}
 use Rattle.njs_meaning.specs.declared.place.Place.{Place}
 use Rattle.njs_meaning.specs.Functions.{scope_names, each_once, arguments_name}
-use Rattle.njs_meaning.specs.Meaning.{Made as MadeFunction, declared_as}
-use Rattle.njs_meaning.specs.Parts.{Declared, Part, leaf, one, two, three, held, with_vars, with_declaration, without_declared, each}
+use Rattle.njs_meaning.specs.Meaning.{declared_as}
+use Rattle.njs_meaning.specs.Parts.{Declared, Part, leaf, one, three, held, with_vars}
 use Rattle.njs_meaning.specs.Places.{Around, Bindings, assignable, place_in}
 use Rattle.njs_simul.specs.Emission as emit
 use Rattle.njs_simul.specs.EmissionOfStatements as step

@@ -1,19 +1,18 @@
 -- How the code of a function begins.
 use Rattle.std.specs.Prelude.{Result, Ok, Err, MatchResult}
-use Rattle.std.proofs.Common.{◌≡◌, ℕ, zero, suc, ◌+◌, ◌<◌, List, [], ◌∷◌, ◌++◌, map, drop, length, get_or, Bool, true, false, Option, None, Some, refl, sym, ap, subst, arith, ◌∙◌}
+use Rattle.std.proofs.Common.{◌≡◌, ℕ, suc, ◌+◌, ◌<◌, List, [], ◌∷◌, ◌++◌, drop, length, get_or, Bool, Some, refl, sym, ap, subst, arith}
 use Rattle.std.specs.Option.{option_map_or}
 use Rattle.njs_tree.specs.declared.tree.Item.{Item}
 use Rattle.njs_code.specs.declared.op.Op.{Op}
 use Rattle.njs_meaning.specs.declared.place.Place.{Place}
 use Rattle.njs_meaning.specs.declared.place.Place.TheVariants.{Slot}
 use Rattle.njs_meaning.specs.Places.{Bindings, Around, place_in, slot_of, outward}
-use Rattle.njs_simul.specs.Emission as emit
 use Rattle.njs_simul.specs.EmissionOfStatements as step
 use Rattle.njs_simul.specs.Sizes.{declared_size, items_size}
 use Rattle.njs_simul.specs.Compiled.{item_part, items_part, items_in_turn}
 use Rattle.njs_scope.specs.Uses as uses
 use Rattle.njs_gen_expr.specs.declared.here.Here.{Here}
-use Rattle.njs_gen_expr.specs.Written.{Progress, Going, IsGoing, Draft, draft, Holds, Refuses, Stands}
+use Rattle.njs_gen_expr.specs.Written.{Progress, Going, Draft, draft, Holds, Refuses}
 use Rattle.njs_gen_expr.specs.declared.fault.Fault.{Fault}
 use Rattle.njs_gen_expr.specs.declared.fault.Fault.TheVariants.{NoMemory, TooLong}
 use Rattle.njs_gen_expr.specs.Parts.{Wrote}

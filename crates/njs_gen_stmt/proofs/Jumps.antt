@@ -1,12 +1,12 @@
 -- How the tests of a `switch` are written (ECMA-262 5.1 §12.11).
-use Rattle.std.proofs.Common.{◌≡◌, ℕ, suc, ◌+◌, ◌<◌, List, [], ◌∷◌, ◌++◌, length, map, drop, get_or, Option, None, Some, refl, sym, ap, subst, arith, rules, ◌∙◌}
-use Rattle.std.specs.Option.{option_map, option_map_or}
+use Rattle.std.proofs.Common.{◌≡◌, ℕ, suc, ◌+◌, ◌<◌, List, [], ◌∷◌, ◌++◌, length, drop, get_or, Option, None, Some, refl, sym, ap, subst, arith, rules, ◌∙◌}
+use Rattle.std.specs.Option.{option_map_or}
 use Rattle.njs_tree.specs.declared.tree.Expr.{Expr, the_lemmas}
 use Rattle.njs_tree.specs.declared.tree.Case.{Case, out-Case}
 use Rattle.njs_code.specs.declared.op.Address.{Address}
 use Rattle.njs_code.specs.declared.op.Op.{Op}
 use Rattle.njs_meaning.specs.declared.place.Place.{Place}
-use Rattle.njs_meaning.specs.Parts.{two, each, held}
+use Rattle.njs_meaning.specs.Parts.{two}
 use Rattle.njs_simul.specs.Emission as emit
 use Rattle.njs_simul.specs.Emission.{Coded, address}
 use Rattle.njs_simul.specs.EmissionOfStatements as step

@@ -1,13 +1,13 @@
 -- How the parts in lists are written, the last first.
-use Rattle.std.proofs.Common.{◌≡◌, ℕ, suc, ◌+◌, ◌<◌, List, [], ◌∷◌, ◌++◌, length, map, drop, get_or, Option, None, Some, refl, sym, ap, subst, arith, ◌∙◌}
-use Rattle.std.specs.Option.{option_map, option_map_or}
+use Rattle.std.proofs.Common.{◌≡◌, ℕ, suc, ◌+◌, ◌<◌, List, [], ◌∷◌, ◌++◌, length, drop, get_or, Option, None, Some, sym, ap, subst, arith, ◌∙◌}
+use Rattle.std.specs.Option.{option_map_or}
 use Rattle.njs_tree.specs.declared.tree.Expr.{Expr}
 use Rattle.njs_tree.specs.declared.tree.Stmt.{Stmt}
 use Rattle.njs_tree.specs.declared.tree.Case.{Case}
 use Rattle.njs_code.specs.declared.op.Address.{Address}
 use Rattle.njs_code.specs.declared.op.Op.{Op}
 use Rattle.njs_meaning.specs.declared.place.Place.{Place}
-use Rattle.njs_meaning.specs.Parts.{one, each}
+use Rattle.njs_meaning.specs.Parts.{one}
 use Rattle.njs_simul.specs.Emission as emit
 use Rattle.njs_simul.specs.Emission.{value, value_size, address}
 use Rattle.njs_simul.specs.EmissionOfStatements as step

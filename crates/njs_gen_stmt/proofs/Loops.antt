@@ -1,21 +1,18 @@
 -- How loops are written (ECMA-262 5.1 §12.6).
-use Rattle.std.proofs.Common.{◌≡◌, ℕ, suc, ◌+◌, List, [], ◌++◌, length, Option, refl, sym, ap, subst, arith, ◌∙◌}
+use Rattle.std.proofs.Common.{◌≡◌, ℕ, suc, ◌+◌, List, ◌++◌, Option, refl, sym, ap, subst, arith, ◌∙◌}
 use Rattle.std.proofs.lemmas.List.{append_assoc}
 use Rattle.njs_code.specs.declared.op.Address.{Address}
 use Rattle.njs_code.specs.declared.op.Kind.TheVariants as kind
-use Rattle.njs_code.specs.declared.op.Op.{Op}
-use Rattle.njs_meaning.specs.declared.place.Place.{Place}
 use Rattle.njs_meaning.specs.Parts.{Part, one, two, three, four}
-use Rattle.njs_simul.specs.Emission as emit
-use Rattle.njs_simul.specs.Emission.{Coded, Emits, value, value_size, deeper, op, address}
+use Rattle.njs_simul.specs.Emission.{Coded, value, value_size, deeper, op, address}
 use Rattle.njs_simul.specs.EmissionOfStatements as step
 use Rattle.njs_simul.specs.EmissionOfStatements.{CodedStatement, CodedPart, head_of}
-use Rattle.njs_simul.specs.Compiled.{Placed, Of_expression, Of_statement, Of_first}
+use Rattle.njs_simul.specs.Compiled.{Placed, Of_expression, Of_statement}
 use Rattle.njs_scope.specs.Uses as uses
 use Rattle.njs_scope.specs.Uses.{Of_part}
 use Rattle.njs_gen_expr.specs.declared.here.Here.{Here}
 use Rattle.njs_gen_expr.specs.declared.writer.Mark.{Mark}
-use Rattle.njs_gen_expr.specs.Written.{Progress, IsGoing, Draft, draft, Holds, Stands}
+use Rattle.njs_gen_expr.specs.Written.{Progress, IsGoing, draft, Holds}
 use Rattle.njs_gen_expr.specs.Parts.{Wrote, WroteValue, Passed}
 use Rattle.njs_gen_expr.proofs.Drafts.{recount, split}
 use Rattle.njs_gen_expr.proofs.Shapes.{Puts, Deeper}

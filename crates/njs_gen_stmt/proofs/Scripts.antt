@@ -1,29 +1,28 @@
 -- How the code of a script is made of that of its functions and that of its body.
-use Rattle.std.proofs.Common.{◌≡◌, ℕ, zero, suc, ◌+◌, ◌<◌, ◌≤◌, List, [], ◌∷◌, ◌++◌, map, length, get_or, drop, nat_lt, Bool, true, false, ◌||◌, Option, None, Some, Result, Ok, Err, refl, sym, ap, subst, arith, ◌∙◌}
-use Rattle.std.proofs.lemmas.List.{append-nil, length-map}
+use Rattle.std.proofs.Common.{◌≡◌, ℕ, ◌<◌, ◌≤◌, List, [], ◌∷◌, ◌++◌, map, length, get_or, drop, Bool, true, false, ◌||◌, Some, refl, sym, ap, subst, arith, ◌∙◌}
+use Rattle.std.proofs.lemmas.List.{length-map}
 use Rattle.std.proofs.lemmas.Bool.{le-ltb}
 use Rattle.njs_tree.specs.declared.tree.Item.{Item}
 use Rattle.njs_tree.specs.declared.tree.Script.{Script}
 use Rattle.njs_code.specs.declared.code.Code.{Code}
 use Rattle.njs_code.specs.declared.code.FunctionCode.{FunctionCode}
 use Rattle.njs_code.specs.declared.op.Op.{Op}
-use Rattle.njs_meaning.specs.declared.place.Place.{Place}
 use Rattle.njs_meaning.specs.Functions.{each_once}
 use Rattle.njs_meaning.specs.Parts.{Declared}
 use Rattle.njs_meaning.specs.Places.{Around, Bindings, assignable}
 use Rattle.njs_simul.specs.EmissionOfStatements.{slots_of, at_start}
 use Rattle.njs_simul.specs.Compiled.{Placed, items_part, body_of, module_around, code_of}
-use Rattle.njs_simul.specs.Counts.{operations_in, operations_of, max_operations}
+use Rattle.njs_simul.specs.Counts.{operations_of}
 use Rattle.njs_simul.specs.Sizes.{body_size}
 use Rattle.njs_simul.proofs.Sizes.{sizes_are_true}
-use Rattle.njs_scope.specs.Planned.{planned, module_names}
+use Rattle.njs_scope.specs.Planned.{module_names}
 use Rattle.njs_scope.specs.Uses as uses
 use Rattle.njs_gen_expr.specs.declared.fault.Fault.{Fault}
 use Rattle.njs_gen_expr.specs.declared.fault.Fault.TheVariants.{NoMemory, TooLong}
 use Rattle.njs_gen_stmt.specs.declared.walk.Walk.{Walk}
-use Rattle.njs_gen_stmt.specs.Functions.{Refused, told_all}
+use Rattle.njs_gen_stmt.specs.Functions.{Refused}
 use Rattle.njs_gen_stmt.specs.Generated.{script_code, has_too_many_slots}
-use Rattle.njs_gen_stmt.specs.Walked.{Found, found, Made, Alike, IsUnbroken, IsInside, is_crowded, any_crowded, coded}
+use Rattle.njs_gen_stmt.specs.Walked.{Found, found, Made, Alike, IsInside, is_crowded, any_crowded, coded}
 
 -- what the walk over the items of a script finds
 abbrev pub found_in : List Item → Around → Found

@@ -1,13 +1,12 @@
 -- What stands in a writer that goes on elsewhere, or that failed.
-use Rattle.std.proofs.Common.{◌≡◌, ℕ, ◌+◌, ◌≤◌, List, ◌++◌, arith}
+use Rattle.std.proofs.Common.{◌≡◌, ℕ, ◌≤◌, List, arith}
 use Rattle.njs_code.specs.declared.op.Address.{Address}
-use Rattle.njs_code.specs.declared.op.Op.{Op}
 use Rattle.njs_meaning.specs.declared.place.Place.{Place}
 use Rattle.njs_simul.specs.Emission.{address}
 use Rattle.njs_simul.specs.EmissionOfStatements.{head_of}
 use Rattle.njs_gen_expr.specs.declared.fault.Fault.TheVariants.{NoMemory, TooLong}
 use Rattle.njs_gen_expr.specs.declared.writer.Mark.{Mark}
-use Rattle.njs_gen_expr.specs.Written.{Progress, Going, Failed, IsGoing, Draft, draft, Holds}
+use Rattle.njs_gen_expr.specs.Written.{Progress, Going, Failed, IsGoing, Draft, Holds}
 use Rattle.njs_gen_stmt.specs.Sized.{counted}
 
 -- what was refused stays so however much more is to be written

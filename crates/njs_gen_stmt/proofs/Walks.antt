@@ -1,18 +1,17 @@
 -- How parts are walked over, one behind the other.
-use Rattle.std.proofs.Common.{◌≡◌, ℕ, zero, suc, ◌+◌, ◌<◌, ◌≤◌, List, [], ◌∷◌, ◌++◌, map, drop, length, get_or, Bool, true, false, ◌||◌, Option, None, Some, refl, sym, ap, subst, arith, ◌∙◌}
+use Rattle.std.proofs.Common.{◌≡◌, ℕ, suc, ◌+◌, ◌<◌, ◌≤◌, List, [], ◌∷◌, ◌++◌, map, drop, length, get_or, Bool, true, false, ◌||◌, Option, None, Some, refl, sym, ap, subst, arith, ◌∙◌}
 use Rattle.std.proofs.Math.Bool.{or_assoc}
 use Rattle.std.proofs.lemmas.List.{append-nil, append_assoc, map-append, length-append, length-map, drop_all}
 use Rattle.njs_code.specs.declared.code.FunctionCode.{FunctionCode}
 use Rattle.njs_meaning.specs.declared.place.Place.{Place}
 use Rattle.njs_meaning.specs.Parts.{Declared, Part, leaf, one, two, three, four, held, with_vars}
-use Rattle.njs_meaning.specs.Places.{Around, Bindings}
-use Rattle.njs_simul.specs.EmissionOfStatements.{CodedFunction}
+use Rattle.njs_meaning.specs.Places.{Bindings}
 use Rattle.njs_simul.specs.Compiled.{Placed}
 use Rattle.njs_scope.specs.Uses as uses
 use Rattle.njs_scope.specs.Uses.{Uses, Of_part}
 use Rattle.njs_gen_expr.proofs.ListShapes.{from_place}
 use Rattle.njs_gen_stmt.specs.declared.walk.Walk.{Walk}
-use Rattle.njs_gen_stmt.specs.Walked.{Found, found, Reached, IsUnbroken, Alike, Walked, coded}
+use Rattle.njs_gen_stmt.specs.Walked.{Found, found, Reached, Alike, Walked, coded}
 
 -- what was reached, told in other words
 pub retold : (w : Walk) (fs gs : List FunctionCode) (ds es : List Declared) (t u : Bool) (scopes : List Bindings) (places : List Place) → fs ≡ gs → ds ≡ es → t ≡ u

@@ -1,5 +1,5 @@
 -- How the code of a function begins.
-use Rattle.std.specs.Prelude.{◌≡◌, ℕ, ◌+◌, ◌<◌, List, [], ◌∷◌, map}
+use Rattle.std.specs.Prelude.{◌≡◌, ℕ, ◌+◌, ◌<◌, List, ◌∷◌, map}
 use Rattle.njs_meaning.specs.Parts.{Declared}
 use Rattle.njs_meaning.specs.Places.{Around, Bindings}
 use Rattle.njs_simul.specs.Emission as emit

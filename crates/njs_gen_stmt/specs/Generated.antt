@@ -1,5 +1,5 @@
 -- What is told of the code of a script, or of why it was not made.
-use Rattle.std.specs.Prelude.{◌≡◌, ◌<◌, ◌≤◌, ℕ, List, [], Bool, true, false, ◌||◌, Result, Ok, Err}
+use Rattle.std.specs.Prelude.{◌≡◌, ◌<◌, ◌≤◌, List, [], Bool, true, false, ◌||◌, Result, Ok, Err}
 use Rattle.njs_tree.specs.declared.tree.Script.{Script}
 use Rattle.njs_tree.specs.declared.tree.Item.{Item}
 use Rattle.njs_code.specs.declared.code.Code.{Code}

@@ -1,5 +1,5 @@
 -- How the parts of statements are written.
-use Rattle.std.specs.Prelude.{◌≡◌, ℕ, ◌+◌, suc, List, [], ◌∷◌, ◌++◌, map, Option, Some, None}
+use Rattle.std.specs.Prelude.{◌≡◌, ℕ, ◌+◌, suc, List, [], ◌++◌, map, Option, Some, None}
 use Rattle.std.specs.Option.{option_map}
 use Rattle.njs_tree.specs.declared.tree.Expr.{Expr}
 use Rattle.njs_tree.specs.declared.tree.Stmt.{Stmt}
@@ -9,7 +9,7 @@ use Rattle.njs_code.specs.declared.op.Address.{Address}
 use Rattle.njs_code.specs.declared.op.Kind.TheVariants as kind
 use Rattle.njs_code.specs.declared.op.Op.{Op}
 use Rattle.njs_meaning.specs.declared.place.Place.{Place}
-use Rattle.njs_meaning.specs.Parts.{Part, one, each, held, each_named_held}
+use Rattle.njs_meaning.specs.Parts.{Part, each, held, each_named_held}
 use Rattle.njs_simul.specs.Emission as emit
 use Rattle.njs_simul.specs.Emission.{Coded, Emits, op, inside, deeper, address}
 use Rattle.njs_simul.specs.EmissionOfStatements as step

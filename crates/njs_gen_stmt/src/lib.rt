@@ -3,10 +3,10 @@
 
 mod address;
 mod function;
-mod script;
 mod here;
 mod labels;
 mod parts;
+mod script;
 pub mod size;
 mod statement;
 mod switch;

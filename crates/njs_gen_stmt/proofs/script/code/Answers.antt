@@ -1,20 +1,14 @@
-use Rattle.std.proofs.Common.{◌≡◌, ℕ, zero, suc, ◌+◌, ◌-◌, ◌<◌, ◌≤◌, List, [], ◌∷◌, ◌++◌, map, length, get_or, take, drop, nat_lt, Bool, true, false, ◌||◌, Option, None, Some, refl, sym, ap, subst, arith, rules, ◌∙◌}
-use Rattle.std.specs.Prelude.{MatchResult, IfOk, Ok, Err}
-use Rattle.std.proofs.lemmas.List.{append-nil, length-map, length-drop, take_all}
+use Rattle.std.proofs.Common.{◌≡◌, ◌-◌, ◌≤◌, List, [], ◌∷◌, length, get_or, take, drop, false, sym, ap, subst, arith, ◌∙◌}
+use Rattle.std.proofs.lemmas.List.{length-drop, take_all}
 use Rattle.njs_tree.specs.declared.tree.Item.{Item}
-use Rattle.njs_tree.specs.declared.tree.Script.{Script}
-use Rattle.njs_code.specs.declared.code.FunctionCode.{FunctionCode}
 use Rattle.njs_meaning.specs.Places.{Around, Bindings}
-use Rattle.njs_simul.specs.Counts.{operations_in, operations_of, max_operations}
-use Rattle.njs_simul.specs.EmissionOfStatements.{slots_of, at_start}
-use Rattle.njs_simul.specs.Compiled.{Placed, items_part, module_around, code_of, body_of}
-use Rattle.njs_simul.specs.Sizes.{body_size}
+use Rattle.njs_simul.specs.Counts.{operations_of, max_operations}
+use Rattle.njs_simul.specs.EmissionOfStatements.{slots_of}
+use Rattle.njs_simul.specs.Compiled.{items_part, module_around}
 use Rattle.njs_scope.specs.Uses as uses
-use Rattle.njs_scope.specs.Planned.{planned, module_names}
-use Rattle.njs_gen_stmt.specs.Functions.{IsIn, Refused, told_all}
-use Rattle.njs_gen_stmt.specs.Generated.{script_code, has_too_many_slots, Explains}
-use Rattle.njs_gen_stmt.specs.Walked.{Found, found, Reached, Made, IsInside, coded}
-use Rattle.njs_gen_stmt.proofs.Scripts.{found_in, body_ops, refused_in_functions, refused_in_body, module_same, module_inside, behind_body, script_is, not_crowded}
+use Rattle.njs_scope.specs.Planned.{module_names}
+use Rattle.njs_gen_stmt.specs.Generated.{has_too_many_slots}
+use Rattle.njs_gen_stmt.proofs.Scripts.{module_same, module_inside, script_is, not_crowded}
 use Rattle.njs_gen_stmt.proofs.script.code.Goals as goal
 
 pub returns-in-Ok-with_body : goal.returns-in-Ok-with_body

@@ -1,12 +1,11 @@
-use Rattle.std.proofs.Common.{◌≡◌, ℕ, zero, suc, ◌+◌, ◌≤◌, List, [], ◌∷◌, ◌++◌, map, length, drop, Bool, true, false, Option, None, Some, refl, sym, ap, subst, arith, ◌∙◌}
+use Rattle.std.proofs.Common.{◌+◌, [], sym, subst}
 use Rattle.njs_tree.specs.declared.tree.Item.{Item}
-use Rattle.njs_simul.specs.Emission as emit
 use Rattle.njs_simul.specs.Emission.{value, value_size, deeper, op}
 use Rattle.njs_code.specs.declared.op.Kind.TheVariants as kind
-use Rattle.njs_simul.specs.Compiled.{item_part, items_part, expression, statement}
+use Rattle.njs_simul.specs.Compiled.{item_part, expression, statement}
 use Rattle.njs_scope.specs.Uses as uses
 use Rattle.njs_gen_stmt.specs.Walked.{Walked}
-use Rattle.njs_gen_stmt.proofs.Walks.{walked_leaf, walked_one, walked_two, completes_more, completed, Completes}
+use Rattle.njs_gen_stmt.proofs.Walks.{walked_one}
 use Rattle.njs_gen_stmt.proofs.script.in_item.Goals as goal
 
 pub returns-in-Stmt : goal.returns-in-Stmt

@@ -2,7 +2,6 @@ use Rattle.std.proofs.Common.{◌≡◌, ℕ, suc, ◌+◌, List, Option, subst,
 use Rattle.njs_tree.specs.declared.tree.Expr.{Expr, the_lemmas}
 use Rattle.njs_simul.specs.Emission.{method_size}
 use Rattle.njs_simul.specs.Compiled.{expression}
-use Rattle.njs_gen_expr.specs.Trees as code
 use Rattle.njs_gen_stmt.specs.Sized.{counted, form, in_target, in_value, in_values, in_elements, in_fields}
 use Rattle.njs_gen_stmt.proofs.Lists.{from_start}
 use Rattle.njs_gen_stmt.proofs.size.+expression.Goals as goal

@@ -1,4 +1,4 @@
-use Rattle.std.proofs.Common.{ℕ, drop}
+use Rattle.std.proofs.Common.{drop}
 use Rattle.njs_gen_expr.specs.Written.{IsGoing}
 use Rattle.njs_gen_stmt.proofs.Jumps.{WroteJumps, BodiesBegin}
 use Rattle.njs_gen_stmt.proofs.switch.jumps.Given as goal

@@ -1,17 +1,12 @@
-use Rattle.std.proofs.Common.{◌≡◌, ℕ, zero, suc, ◌+◌, ◌-◌, ◌<◌, ◌≤◌, List, [], ◌∷◌, ◌++◌, map, length, take, nat_lt, Bool, true, false, ◌||◌, Option, None, Some, refl, sym, ap, subst, arith, rules, ◌∙◌}
-use Rattle.std.specs.Prelude.{MatchResult, Ok, Err}
+use Rattle.std.proofs.Common.{◌≡◌, ◌+◌, ◌-◌, ◌∷◌, ◌++◌, length, take, nat_lt, ◌||◌, ap, arith, ◌∙◌}
+use Rattle.std.specs.Prelude.{MatchResult}
 use Rattle.std.proofs.lemmas.List.{length-append}
-use Rattle.njs_tree.specs.declared.tree.FunctionTree.{FunctionTree, out-FunctionTree}
-use Rattle.njs_code.specs.declared.code.FunctionCode.{FunctionCode}
+use Rattle.njs_tree.specs.declared.tree.FunctionTree.{out-FunctionTree}
 use Rattle.njs_meaning.specs.Places.{Around, Bindings}
-use Rattle.njs_simul.specs.Counts.{operations_in}
-use Rattle.njs_simul.specs.EmissionOfStatements.{slots_of}
-use Rattle.njs_gen_stmt.specs.Functions.{IsIn, Refused, told, told_all}
+use Rattle.njs_gen_stmt.specs.Functions.{Refused, told_all}
 use Rattle.njs_gen_stmt.specs.Statements.{in_turn, in_turn_uses}
-use Rattle.njs_gen_stmt.specs.Walked.{Found, found, Reached, AreMade, Made, IsUnbroken, IsInside, unwritten, code_in}
-use Rattle.njs_gen_stmt.proofs.FunctionWalks.{code_long, none_in, none_crowded, mention_walked, rementioned, redeclared}
-use Rattle.njs_gen_stmt.proofs.Puts.{operations_put, crowded_put}
-use Rattle.njs_gen_stmt.proofs.FunctionEnds.{unbroken, unmentioned, reserved, refused_reserved, refused_among, still_refused, broken, are_unbroken, were_made, code_reached, ended, places_used, known_code, is_in}
+use Rattle.njs_gen_stmt.specs.Walked.{found, IsUnbroken, unwritten, code_in}
+use Rattle.njs_gen_stmt.proofs.FunctionEnds.{unbroken, code_reached, ended, places_used, known_code, is_in}
 use Rattle.njs_gen_stmt.proofs.walk.end_function.Goals as goal
 
 pub returns-clause-ended : goal.returns-clause-ended
@@ -32,9 +27,11 @@ returns-clause-ended c b own around start nested ds takes scopes places known in
     let made : IsUnbroken w.fault → (k.number ≡ first) × MatchResult c.function_code-made.result (λ x. x ≡ code) (λ fault. Refused fault (length code.ops)) = λ going.
     let m = unbroken w.fault w (found fs ds takes scopes places) going h.3 in
     let long = length-append b.functions (unwritten ∷ nested) in
-    let functions : c.len.result ≡ first + 1 + (in_turn body).size = c.len.ensures ∙ ap length m.0 ∙ omega (arith, long, size) in
-    ((known.2 going).0, known_code c.args.f.now c.function_code-made.result first (told_all c.as_slice.result.now) ds w.names_arguments takes all (ap told_all c.as_slice.ensures ∙ m.1) m.2
-    (c.function_code-made.ensures all first start (is_in own k.names.now around known.0 inside) (slots going) taken functions)) in
+    let functions : c.len.result ≡ first + 1 + (in_turn body).size = c.len.ensures ∙ ap length m.0 ∙ omega (arith, long, size) in (
+      (known.2 going).0,
+      known_code c.args.f.now c.function_code-made.result first (told_all c.as_slice.result.now) ds w.names_arguments takes all (ap told_all c.as_slice.ensures ∙ m.1) m.2
+          (c.function_code-made.ensures all first start (is_in own k.names.now around known.0 inside) (slots going) taken functions),
+    ) in
     let put = c.put_made.ensures.put b.functions nested code made (code_reached w fs ds takes scopes places h) in
     ended w v b.functions nested code ds b.declared takes b.takes_arguments scopes places k.declared k.names_arguments c.either-w.result c.put_made.ensures.same h put
     (c.either-w.ensures ∙ ap (λ (ns : Bindings). v.crowded || nat_lt 65535 (length ns)) known.0)

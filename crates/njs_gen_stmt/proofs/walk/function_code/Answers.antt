@@ -1,17 +1,8 @@
-use Rattle.std.proofs.Common.{◌≡◌, ℕ, zero, suc, ◌+◌, ◌-◌, ◌<◌, ◌≤◌, List, [], ◌∷◌, ◌++◌, map, length, take, nat_lt, Bool, true, false, ◌||◌, Option, None, Some, refl, sym, ap, subst, arith, rules, ◌∙◌}
-use Rattle.std.specs.Prelude.{MatchResult, Ok, Err}
-use Rattle.std.proofs.Math.Seq.{set-append_seam}
-use Rattle.njs_tree.specs.declared.tree.FunctionTree.{FunctionTree, out-FunctionTree}
-use Rattle.njs_code.specs.declared.code.FunctionCode.{FunctionCode}
-use Rattle.njs_meaning.specs.Places.{Around, Bindings}
-use Rattle.njs_simul.specs.Counts.{operations_in}
-use Rattle.njs_simul.specs.EmissionOfStatements.{slots_of}
-use Rattle.njs_gen_stmt.specs.Functions.{IsIn, Refused, told, told_all}
-use Rattle.njs_gen_stmt.specs.Statements.{in_turn, in_turn_uses}
-use Rattle.njs_gen_stmt.specs.Walked.{Found, found, Reached, AreMade, Made, IsUnbroken, IsInside, unwritten, code_in}
-use Rattle.njs_gen_stmt.proofs.FunctionWalks.{code_long, none_in, none_crowded, mention_walked, rementioned, redeclared}
-use Rattle.njs_gen_stmt.proofs.Puts.{operations_put, crowded_put}
-use Rattle.njs_gen_stmt.proofs.FunctionEnds.{unbroken, unmentioned, reserved, refused_reserved, refused_among, still_refused, broken, are_unbroken, were_made, code_reached, ended, places_used, known_code, is_in}
+use Rattle.std.proofs.Common.{◌≡◌, ◌+◌, sym, subst, arith}
+use Rattle.njs_tree.specs.declared.tree.FunctionTree.{out-FunctionTree}
+use Rattle.njs_gen_stmt.specs.Functions.{Refused, told_all}
+use Rattle.njs_gen_stmt.specs.Statements.{in_turn}
+use Rattle.njs_gen_stmt.proofs.FunctionWalks.{code_long}
 use Rattle.njs_gen_stmt.proofs.walk.function_code.Goals as goal
 
 pub returns-in-Err : goal.returns-in-Err

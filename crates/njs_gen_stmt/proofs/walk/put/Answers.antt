@@ -1,17 +1,9 @@
-use Rattle.std.proofs.Common.{◌≡◌, ℕ, zero, suc, ◌+◌, ◌-◌, ◌<◌, ◌≤◌, List, [], ◌∷◌, ◌++◌, map, length, take, nat_lt, slice_set, Bool, true, false, ◌||◌, Option, None, Some, refl, sym, ap, subst, arith, rules, ◌∙◌}
-use Rattle.std.specs.Prelude.{MatchResult, Ok, Err}
+use Rattle.std.proofs.Common.{◌≡◌, ◌∷◌, ◌++◌, slice_set, ap, arith, ◌∙◌}
 use Rattle.std.proofs.Math.Seq.{set-append_seam}
-use Rattle.njs_tree.specs.declared.tree.FunctionTree.{FunctionTree, out-FunctionTree}
-use Rattle.njs_code.specs.declared.code.FunctionCode.{FunctionCode}
-use Rattle.njs_meaning.specs.Places.{Around, Bindings}
 use Rattle.njs_simul.specs.Counts.{operations_in}
-use Rattle.njs_simul.specs.EmissionOfStatements.{slots_of}
-use Rattle.njs_gen_stmt.specs.Functions.{IsIn, Refused, told, told_all}
-use Rattle.njs_gen_stmt.specs.Statements.{in_turn, in_turn_uses}
-use Rattle.njs_gen_stmt.specs.Walked.{Found, found, Reached, AreMade, Made, IsUnbroken, IsInside, unwritten, code_in}
-use Rattle.njs_gen_stmt.proofs.FunctionWalks.{code_long, none_in, none_crowded, mention_walked, rementioned, redeclared}
-use Rattle.njs_gen_stmt.proofs.Puts.{operations_put, crowded_put}
-use Rattle.njs_gen_stmt.proofs.FunctionEnds.{unbroken, unmentioned, reserved, refused_reserved, refused_among, still_refused, broken, are_unbroken, were_made, code_reached, ended, places_used, known_code, is_in}
+use Rattle.njs_gen_stmt.specs.Walked.{unwritten}
+use Rattle.njs_gen_stmt.proofs.Puts.{operations_put}
+use Rattle.njs_gen_stmt.proofs.FunctionEnds.{are_unbroken, were_made}
 use Rattle.njs_gen_stmt.proofs.walk.put.Goals as goal
 
 pub returns-then-total-gt-MAX_OPS-clause-put : goal.returns-then-total-gt-MAX_OPS-clause-put
