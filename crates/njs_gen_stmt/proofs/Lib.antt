@@ -9,3 +9,8 @@ pub mod Optionals
 pub mod Ends
 pub mod Functions
 pub mod Nodes
+pub mod Walks
+pub mod FunctionWalks
+pub mod Puts
+pub mod FunctionEnds
+pub mod Scripts

@@ -1,3 +1,5 @@
 pub mod Sized
 pub mod Statements
 pub mod Functions
+pub mod Walked
+pub mod Generated

@@ -6,10 +6,13 @@ mod function;
 mod here;
 mod labels;
 mod parts;
+mod script;
 pub mod size;
 mod statement;
 mod switch;
 #[cfg(test)]
 mod tests;
+mod walk;
 
 pub use function::{Declaration, Known, function_ops, module_ops};
+pub use script::{GenFault, generate};
