@@ -79,7 +79,7 @@ fn value(value: Value) -> Desc {
 }
 
 fn name(rt: &impl Abort, name: &'static str) -> Text {
-    assert!(rt; name.len() <= 1_048_576);
+    assert!(rt; name.len() <= 32);
     Text::fixed(name)
 }
 

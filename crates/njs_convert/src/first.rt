@@ -96,7 +96,7 @@ fn make_errors<L: Ledger>(
     steps: &mut Steps<L>,
 ) -> Result<(), NoMemory>
     requires up { place_of up < length machine.old.objects }
-    requires name { length name.now ≤ 1048576 }
+    requires name { length name.now ≤ 32 }
     ensures made { OnOk result (plain_objects machine.new ≡ plain_objects machine.old ++ error_prototype up (chars name.now) ∷ []) }
     ensures count { OnOk result (length machine.new.objects ≡ length machine.old.objects + 1) }
     ensures scopes { machine.new.scopes ≡ machine.old.scopes }

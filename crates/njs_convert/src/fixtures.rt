@@ -54,7 +54,7 @@ const VALUE_OF: u32 = 13;
 const TO_STRING: u32 = 14;
 
 pub fn fixed(rt: &impl Abort, text: &'static str) -> Text {
-    assert!(rt; text.len() <= 1_048_576);
+    assert!(rt; text.len() <= 32);
     Text::fixed(text)
 }
 

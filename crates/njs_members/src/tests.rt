@@ -60,7 +60,7 @@ enum Act {
 }
 
 fn text(rt: &impl Abort, text: &'static str) -> Text {
-    assert!(rt; text.len() <= 1_048_576);
+    assert!(rt; text.len() <= 32);
     Text::fixed(text)
 }
 

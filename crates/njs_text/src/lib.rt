@@ -5,6 +5,7 @@ mod chars;
 mod list;
 mod memory;
 mod steps;
+mod stored;
 #[cfg(test)]
 mod tests;
 mod text;

@@ -1,7 +1,6 @@
 // Texts, which contracts see as lists of scalar values.
 ghost use Rattle.std.specs.Prelude.{◌≡◌, ◌==◌, ◌≤◌, ◌<◌, ◌++◌, length, true, slice_get, slice_range, IfOk};
 ghost use Rattle.std.specs.Str.{all_scalars, chars, bytes_eq, encode_utf8_all};
-ghost use Rattle.std.specs.String.{string_bytes};
 ghost use Rattle.std.specs.Ordering.{nat_cmp};
 ghost use Rattle.std.specs.Cmp.Lexicographic.{slice_cmp};
 ghost use Rattle.std.specs.Cmp.{partial_equiv_from_equiv};
@@ -10,9 +9,10 @@ ghost use Rattle.memchr.specs.Find.{FindsNeedle};
 ghost use Rattle.njs_text.specs.Text.{TextFrom, LossyFrom, Joined, MadeOf};
 ghost use Rattle.njs_text.specs.declared.text.TextFault.TheVariants as fault;
 
+use crate::stored::Stored;
 use crate::{NoMemory, chars};
+use arrayvec::ArrayString;
 use std::alloc::{AllocError, Global};
-use std::borrow::CowStr;
 use std::cmp::Ordering;
 use std::fmt::{self, Debug, Formatter, Write};
 use std::hash::{Hash, Hasher};
@@ -51,20 +51,20 @@ impl From<NoMemory> for TextFault {
 /// bytes nor the UTF-16 units of ECMA-262 5.1 §8.4.
 #[derive(Drop)]
 pub struct Text {
-    string: CowStr<'static>,
+    string: Stored,
     count: usize,
 }
 
 impl Model for Text {
     ghost use Rattle.std.specs.Prelude.{List, ℕ, length, ◌≡◌, ◌≤◌};
     ghost use Rattle.std.specs.Str.{chars};
-    ghost use Rattle.std.specs.Cow.{cow_str_bytes};
+    ghost use Rattle.njs_text.specs.Stored.{stored_bytes};
 
     ghost Value = { List ℕ };
 
-    ghost view = { λ t. chars (cow_str_bytes t.string) };
+    ghost view = { λ t. chars (stored_bytes t.string) };
 
-    ghost invariant = { λ t. (t.count ≡ length (chars (cow_str_bytes t.string))) × (t.count ≤ 1048576) };
+    ghost invariant = { λ t. (t.count ≡ length (chars (stored_bytes t.string))) × (t.count ≤ 1048576) };
 }
 
 impl Text {
@@ -89,7 +89,7 @@ impl Text {
             return Err(TextFault::TooLong);
         }
         Ok(Text {
-            string: CowStr::Owned(string),
+            string: Stored::Owned(string),
             count,
         })
     }
@@ -103,7 +103,7 @@ impl Text {
         }
         let string = String::from_str(alloc, text)?;
         Ok(Text {
-            string: CowStr::Owned(string),
+            string: Stored::Owned(string),
             count,
         })
     }
@@ -117,19 +117,21 @@ impl Text {
         }
         let string = chars::string_of(alloc, list)?;
         Ok(Text {
-            string: CowStr::Owned(string),
+            string: Stored::Owned(string),
             count: list.len(),
         })
     }
 
-    /// A text that stands in the program, of at most 1,048,576 bytes. It takes no memory.
-    pub fn fixed(text: &'static str) -> Text
-        requires { length text.now ≤ 1048576 }
+    /// A short text of the program, of at most 32 bytes. It takes no memory.
+    pub fn fixed(text: &str) -> Text
+        requires { length text.now ≤ 32 }
         ensures { result ≡ chars text.now }
     {
         let count = chars::char_count(text);
+        let mut short = ArrayString::new();
+        short.push_str(text);
         Text {
-            string: CowStr::Borrowed(text),
+            string: Stored::Short(short),
             count,
         }
     }
@@ -139,8 +141,8 @@ impl Text {
         ensures { IfOk result (λ text. text ≡ self.now) }
     {
         let string = match &self.string {
-            CowStr::Borrowed(text) => CowStr::Borrowed(*text),
-            CowStr::Owned(string) => CowStr::Owned(String::from_str(alloc, string.as_str())?),
+            Stored::Short(text) => Stored::Short(*text),
+            Stored::Owned(string) => Stored::Owned(String::from_str(alloc, string.as_str())?),
         };
         Ok(Text {
             string,
@@ -205,7 +207,7 @@ impl Text {
         let part = chars::part_of(self.string.as_str(), self.count, from, to);
         let string = String::from_str(alloc, part)?;
         Ok(Text {
-            string: CowStr::Owned(string),
+            string: Stored::Owned(string),
             count: to - from,
         })
     }
@@ -220,7 +222,7 @@ impl Text {
         }
         let string = chars::joined(alloc, self.string.as_str(), other.string.as_str())?;
         Ok(Text {
-            string: CowStr::Owned(string),
+            string: Stored::Owned(string),
             count,
         })
     }
