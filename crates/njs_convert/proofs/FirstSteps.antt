@@ -76,10 +76,10 @@ pub plain_fits : (n : ℕ) (up : Option Prototype) → option_map_or (λ up. nat
 plain_fits n None e p is = cc
 plain_fits n (Some up) e p is = let same : up ≡ p = cc in subst (λ q. place_of q < n) same (ltb-true (place_of up) n e)
 
-pub errors_fit : (n k : ℕ) (up : Prototype) → (nat_lt (place_of up) n && nat_le k 1048576) ≡ true → (place_of up < n) × (k ≤ 1048576)
+pub errors_fit : (n k : ℕ) (up : Prototype) → (nat_lt (place_of up) n && nat_le k 32) ≡ true → (place_of up < n) × (k ≤ 32)
 errors_fit n k up e =
-    let parts = and_parts (nat_lt (place_of up) n) (nat_le k 1048576) e in
-    (ltb-true (place_of up) n parts.0, leb-true k 1048576 parts.1)
+    let parts = and_parts (nat_lt (place_of up) n) (nat_le k 32) e in
+    (ltb-true (place_of up) n parts.0, leb-true k 32 parts.1)
 
 -- the prototypes that are above stand there
 pub above_fits : (n : ℕ) (up : Option Prototype) (above : Option ObjId) → above ≡ option_map object_of up → ForSome up (λ up. place_of up < n) → ForSome above (λ up. up.0 < n)

@@ -34,7 +34,7 @@ pub record HasMade (rows : List FirstObject) (old new : List PlainObject) : Type
 -- the prototype of a row is one of so many objects, and a name is short enough for a text
 abbrev pub row_fits : ℕ → FirstObject → Bool
 row_fits n (Plain class up) = option_map_or (λ up. nat_lt (place_of up) n) up true
-row_fits n (Errors up name) = nat_lt (place_of up) n && nat_le (length name.now) 1048576
+row_fits n (Errors up name) = nat_lt (place_of up) n && nat_le (length name.now) 32
 
 -- the prototype of each row is one of so many objects or of an earlier row
 abbrev pub rows_fit : ℕ → List FirstObject → Bool

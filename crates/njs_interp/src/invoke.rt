@@ -105,7 +105,7 @@ pub(crate) fn invoke<H: Host, L: Ledger>(
         >, fuel: &mut Fuel, host: &mut H, callee: Value, way: Way, args: &[Value], steps: &mut Steps<
             L,
         >| -> Result<Value, Stop>
-            requires fits { FitsProgram H.rows (H.zones host.old) (counts_of codes.entry.now) machine.old }
+            requires fits { FitsProgram H.rows (H.zones host.old) (counts_of codes.now) machine.old }
             requires callee { FitsValue (sizes machine.old) callee }
             requires way { FitsWay (sizes machine.old) way }
             requires args { AllByRecursion (FitsValue (sizes machine.old)) args.now }

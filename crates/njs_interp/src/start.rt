@@ -42,7 +42,7 @@ fn enter_entry<H: Host, L: Ledger, A: Again<H, Steps<L>>>(
     requires counts { A.counts own.old.run ≡ counts_of codes.now }
     requires may { A.may own.old.run }
     requires fits { FitsProgram H.rows (H.zones own.old.host.now) (counts_of codes.now) machine.old }
-    ensures told { (calls : Calls) (k : Known) (program : Program) (is : IsProgram H.means H.constructs codes.now k program) → A.follows own.old.run k calls → H.agrees own.new.host.now k → Means (StandsIn (H.keeps own.old.host.now) own.old.fuel.now.left k is.of_codes.outermost machine.old) (Holds (H.keeps own.new.host.now) own.new.fuel.now.left k machine.new) (H.halted own.new.host.now k) machine.new.texts (ShowsValue machine.new.texts) result (entry_by program is.of_codes.scripts calls machine.old.texts entry) }
+    ensures told { (calls : Calls) (k : Known) (program : Program) (is : IsProgram H.means H.constructs codes.now k program) → A.follows own.old.run k calls → H.agrees own.new.host.now k → Means (StandsIn (H.keeps own.old.host.now) own.old.fuel.now.left k is.of_codes.outermost machine.old) (Holds (H.keeps own.new.host.now) own.new.fuel.now.left k machine.new) (H.halted own.new.host.now k) machine.new.texts (ShowsValue machine.new.texts) result (entry_by program is.of_codes.scripts calls machine.old.texts entry.entry) }
     ensures same { lent_by own.new.fuel.ghost_name own.new.host.ghost_name (A.counts own.new.run) ≡ lent_by own.old.fuel.ghost_name own.old.host.ghost_name (A.counts own.old.run) }
     ensures entered { Entered H.rows (counts_of codes.now) (H.agrees own.old.host.now) (H.agrees own.new.host.now) (H.zones own.new.host.now) machine.old machine.new result own.old.fuel.now.left own.new.fuel.now.left steps.old steps.new }
 {
@@ -76,7 +76,7 @@ pub fn run<H: Host, L: Ledger>(
 ) -> Outcome
     requires fits { FitsProgram H.rows (H.zones host.old) (counts_of codes.now) machine.old }
     requires entry { FitsEntry H.rows codes.now machine.old entry }
-    ensures told { (k : Known) (program : Program) (is : IsProgram H.means H.constructs codes.now k program) → H.agrees host.new k → Means (StandsIn (H.keeps host.old) fuel.old.left k is.of_codes.outermost machine.old) (StandsIn (H.keeps host.new) fuel.new.left k is.of_codes.outermost machine.new) (H.halted host.new k) machine.new.texts (ShowsValue machine.new.texts) (answer_of result) (entry_by program is.of_codes.scripts (calls_at program 256) machine.old.texts entry) }
+    ensures told { (k : Known) (program : Program) (is : IsProgram H.means H.constructs codes.now k program) → H.agrees host.new k → Means (StandsIn (H.keeps host.old) fuel.old.left k is.of_codes.outermost machine.old) (StandsIn (H.keeps host.new) fuel.new.left k is.of_codes.outermost machine.new) (H.halted host.new k) machine.new.texts (ShowsValue machine.new.texts) (answer_of result) (entry_by program is.of_codes.scripts (calls_at program 256) machine.old.texts entry.entry) }
     ensures agrees { (k : Known) → H.agrees host.new k → H.agrees host.old k }
     ensures fits { FitsProgram H.rows (H.zones host.new) (counts_of codes.now) machine.new }
     ensures grows { Grows machine.old machine.new }
@@ -91,7 +91,7 @@ pub fn run<H: Host, L: Ledger>(
         >, fuel: &mut Fuel, host: &mut H, callee: Value, way: Way, args: &[Value], steps: &mut Steps<
             L,
         >| -> Result<Value, Stop>
-            requires fits { FitsProgram H.rows (H.zones host.old) (counts_of codes.entry.now) machine.old }
+            requires fits { FitsProgram H.rows (H.zones host.old) (counts_of codes.now) machine.old }
             requires callee { FitsValue (sizes machine.old) callee }
             requires way { FitsWay (sizes machine.old) way }
             requires args { AllByRecursion (FitsValue (sizes machine.old)) args.now }
