@@ -54,3 +54,4 @@ pub mod HeldTells
 pub mod Sorted
 pub mod NamesJump
 pub mod Distinct
+pub mod Enters

@@ -37,7 +37,7 @@ pub(crate) struct Scripted {
 }
 
 // Calls a function of a script, or makes an object by it.
-fn enter_script<C: Runner<L>, L: Ledger>(
+pub(crate) fn enter_script<C: Runner<L>, L: Ledger>(
     alloc: Global,
     codes: &[ValidCode],
     script: Scripted,
@@ -84,7 +84,7 @@ fn enter_script<C: Runner<L>, L: Ledger>(
 }
 
 // Calls what a bound function leads to, or makes an object by it. It costs a tick.
-fn enter_bound<C: Runner<L>, L: Ledger>(
+pub(crate) fn enter_bound<C: Runner<L>, L: Ledger>(
     alloc: Global,
     target: ObjId,
     way: Way,
@@ -121,7 +121,7 @@ fn enter_bound<C: Runner<L>, L: Ledger>(
 }
 
 // The arguments of a bound function, and then those of a call of it.
-fn joined(alloc: Global, first: &[Value], args: &[Value]) -> Result<Vec<Value>, NoMemory>
+pub(crate) fn joined(alloc: Global, first: &[Value], args: &[Value]) -> Result<Vec<Value>, NoMemory>
     ensures { IfOk result (λ all. all.items ≡ first.now ++ args.now) }
 {
     let mut all = Vec::from_slice(alloc, first)?;
@@ -129,7 +129,7 @@ fn joined(alloc: Global, first: &[Value], args: &[Value]) -> Result<Vec<Value>, 
     Ok(all)
 }
 
-fn bound_way(way: Way, this: Value) -> Way
+pub(crate) fn bound_way(way: Way, this: Value) -> Way
     ensures { result ≡ bound_way way this }
 {
     match way {

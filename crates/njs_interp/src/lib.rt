@@ -1,11 +1,13 @@
 //! The interpreter: it runs the code of scripts on a machine.
 #![tactic(auto)]
 
+mod again;
 mod answers;
 mod arguments;
 mod asking;
 mod at;
 mod calling;
+mod code_run;
 mod construct;
 mod endings;
 mod enter;
@@ -15,6 +17,7 @@ mod families;
 mod functions;
 mod host;
 mod in_call;
+mod invoke;
 mod jumps;
 mod laws;
 mod lead;
@@ -29,11 +32,11 @@ mod operands;
 mod operators;
 mod own;
 mod pile;
-mod run;
 mod runner;
 mod script;
 mod slots;
 mod stacks;
+mod start;
 mod step;
 mod taken;
 mod taking;
@@ -52,3 +55,4 @@ pub use own::Way;
 pub use pile::Pile;
 pub use runner::Runner;
 pub use stacks::{Ending, Listing, Stacks};
+pub use start::run;

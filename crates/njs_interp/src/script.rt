@@ -18,7 +18,7 @@ ghost use Rattle.njs_interp.specs.Hosts.{behind_own, counts_of};
 ghost use Rattle.njs_interp.specs.Stepping.{CountsAre};
 ghost use Rattle.njs_interp.specs.Calling.{CodesOf, own_slots, scope_filled, StandsThere, RunsInScope};
 
-use crate::run::run_code;
+use crate::code_run::run_code;
 use crate::{InCall, Runner};
 use njs_clone::Machine;
 use njs_code::{Code, FunctionCode, ValidCode, valid_code_keeps_its_rule};

@@ -5,7 +5,7 @@ use Rattle.njs_interp.specs.Grown.{Widens}
 use Rattle.njs_interp.specs.Leading.{SitsAt}
 use Rattle.njs_interp.specs.Turning.{RanTo}
 use Rattle.njs_interp.proofs.Running.{left_of}
-use Rattle.njs_interp.proofs.run.run_code.Given as goal
+use Rattle.njs_interp.proofs.code_run.run_code.Given as goal
 
 -- every run of the code is at a place, with all that the operation there counts on
 abbrev pub invariant-loop-to : goal.invariant-loop-to

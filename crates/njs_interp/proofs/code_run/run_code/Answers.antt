@@ -8,7 +8,7 @@ use Rattle.njs_interp.specs.Turning.{Turns, LeavesTurned, Onward, RanTo}
 use Rattle.njs_interp.proofs.Kept.{Widens-refl, Widens-trans, Widens-objects, FitsValue-widened, all-more}
 use Rattle.njs_interp.proofs.Leading.{at_within}
 use Rattle.njs_interp.proofs.Running.{start_sits, start_ran, start_stopped, ran_on, ran_ends, ran_stops, sits_here, less_left}
-use Rattle.njs_interp.proofs.run.run_code.Goals as goal
+use Rattle.njs_interp.proofs.code_run.run_code.Goals as goal
 
 pub returns-in-Err-clause-told : goal.returns-in-Err-clause-told
 returns-in-Err-clause-told g c = λ known.
