@@ -8,7 +8,6 @@ use Rattle.njs_meaning.specs.Running.{charge}
 use Rattle.njs_meaning.specs.Errors.{name_of, throw}
 use Rattle.njs_meaning.specs.Replies.{state_of}
 use Rattle.njs_convert.specs.Tells.{Tells, ShowsValue}
-use Rattle.njs_convert.specs.declared.stop.Stop.TheVariants.{NoMemory}
 use Rattle.njs_interp.specs.declared.own.Way.{Way}
 use Rattle.njs_interp.specs.Hosts.{FitsProgram, counts_of}
 use Rattle.njs_interp.specs.Standing.{Stands, Holds, by_way}

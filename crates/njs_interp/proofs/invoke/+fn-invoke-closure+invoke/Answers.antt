@@ -1,4 +1,4 @@
-use Rattle.std.proofs.Common.{◌≡◌, ◌<◌, ◌-◌, ℕ, suc, List, [], true, false, map, length, Err, refl, sym, ap, ◌∙◌, subst, arith, rules}
+use Rattle.std.proofs.Common.{◌≡◌, ◌-◌, ℕ, suc, [], true, false, map, Err, refl, sym, ap, ◌∙◌, subst, arith, rules}
 use Rattle.njs_value.specs.declared.Cause.TheVariants.{CallDepth}
 use Rattle.njs_value.specs.declared.Value.{Value}
 use Rattle.njs_value.specs.declared.Value.TheVariants as value
@@ -11,7 +11,7 @@ use Rattle.njs_meaning.specs.Functions.{Program, calls_at}
 use Rattle.njs_convert.specs.Tells.{Tells, ShowsValue}
 use Rattle.njs_interp.specs.Hosts.{counts_of}
 use Rattle.njs_interp.specs.Standing.{Stands, Holds, by_way}
-use Rattle.njs_interp.specs.Calling.{may_enter, entered}
+use Rattle.njs_interp.specs.Calling.{may_enter}
 use Rattle.njs_interp.proofs.Enters.{throw_enters}
 use Rattle.njs_interp.proofs.Invoking.{refused_is, deepest_is, entered_is, refused_tells, refusal_nameless, fared_tells, by_way_fares, calls_fare, calls_keep}
 use Rattle.njs_interp.proofs.invoke.+fn-invoke-closure+invoke.Goals as goal

@@ -1,5 +1,4 @@
-use Rattle.std.proofs.Common.{◌≡◌, ℕ, sym, subst, rules}
-use Rattle.njs_value.specs.declared.Value.{Value}
+use Rattle.std.proofs.Common.{◌≡◌, sym, subst, rules}
 use Rattle.njs_shared.specs.Heap.{Heap}
 use Rattle.njs_convert.specs.Tells.{Tells, ShowsValue}
 use Rattle.njs_meaning.specs.Functions.{calls_at}
